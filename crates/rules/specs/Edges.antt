@@ -1,0 +1,100 @@
+-- At the edges: the P cases as one table, a question with its answer's words in each row. The claim that every row holds stands in proofs/.
+use Prim.Native.Nat.{ℕ, _^_, _-_, _/_, _%_}
+use mathlib.Core.List.{List, [], _∷_, _++_}
+use mathlib.Core.Option.{Option, none, some}
+use Rattle.rules.specs.Words.{NONE, bytes-of}
+use Rattle.rules.specs.Syntax.{ResolvedType, TypeExpr, Expr, Param, Name, TypeDef, CompiledSchema, run}
+use Rattle.rules.specs.Types.{BOOL, STRING}
+use Rattle.rules.specs.Refusal.{Result, ok, err}
+use Rattle.rules.specs.Substitute.{Counted, too-large, done, substitute-type}
+use Rattle.rules.specs.Infer.{PortableExpr, infer-expr}
+use Rattle.rules.specs.Output.{value-words}
+use Rattle.rules.specs.Projone.{projone}
+
+pub data Question : Type 0 where
+  typing : List (Param ResolvedType) → Option ResolvedType → Expr → Question  -- locals, expected type, an expression of function 7, in context 3
+  resolving : CompiledSchema → List (Param ResolvedType) → TypeExpr → Question
+  printing : List ℕ → Question  -- what projone prints of an image, line after line
+
+-- typed: 0 and the value's words; refused: number, names, detail words
+unfoldable pub typed-words : Result PortableExpr → List ℕ
+typed-words (ok e) = 0 ∷ value-words e
+typed-words (err r) = r .number ∷ r .function ∷ r .second ∷ r .detail
+
+-- resolved: 0, the visits and the run; too large: 8
+unfoldable pub counted-words : Counted ResolvedType → List ℕ
+counted-words too-large = 8 ∷ []
+counted-words (done visits t) = 0 ∷ visits ∷ run t
+
+unfoldable pub joined : List (List ℕ) → List ℕ
+joined [] = []
+joined (l ∷ ls) = l ++ joined ls
+
+unfoldable pub answer-to : Question → List ℕ
+answer-to (typing locals expected e) = typed-words (infer-expr (record { function = 7; locals = locals; fields = []; self-type = ResolvedType.named 0 }) e expected 3)
+answer-to (resolving schema params e) = counted-words (substitute-type schema params e)
+answer-to (printing image) = joined (projone image)
+
+-- Int and UInt of a number's 64 bits
+abbrev int : ℕ → Expr
+int n = Expr.literal 0 (n % 2 ^ 32) (n / 2 ^ 32)
+
+abbrev uint : ℕ → Expr
+uint n = Expr.literal 1 (n % 2 ^ 32) (n / 2 ^ 32)
+
+-- -n in 64 bits
+abbrev minus : ℕ → ℕ
+minus n = 2 ^ 64 - n
+
+abbrev under : ResolvedType → Expr → Question
+under t e = typing [] (some t) e
+
+abbrev I8 : ResolvedType
+I8 = ResolvedType.plain 5
+
+abbrev U8 : ResolvedType
+U8 = ResolvedType.plain 1
+
+-- names A (0) and T (1); A<T> = Optional<T> is definition 0
+abbrev optional-alias : CompiledSchema
+optional-alias = record {
+  names = record { text = 65 ∷ []; definition = 0; alias = none } ∷ record { text = 84 ∷ []; definition = NONE; alias = none } ∷ [];
+  definitions = TypeDef.generic-alias (record { type-params = 1 ∷ []; target-type = TypeExpr.one 64 (TypeExpr.named 1) }) ∷ [];
+}
+
+-- the whole case: texts, names, pool, definitions, trailer
+abbrev whole-image : List ℕ
+whole-image =
+    (103 ∷ 101 ∷ 116 ∷ 71 ∷ 77 ∷ [])
+    ++ bytes-of (0 ∷ 3 ∷ NONE ∷ NONE ∷ 3 ∷ 1 ∷ 1 ∷ NONE ∷ 4 ∷ 1 ∷ 0 ∷ NONE
+    ∷ 0 ∷ 1 ∷ 0 ∷ 1 ∷ 0 ∷ 0 ∷ 2 ∷ 1 ∷ 1 ∷ 1 ∷ 48 ∷ 0 ∷ 0 ∷ 1 ∷ 0 ∷ 0 ∷ 1 ∷ 1 ∷ 1 ∷ 1 ∷ 2 ∷ 1 ∷ 0 ∷ 5 ∷ 0
+    ∷ 1 ∷ 0 ∷ 3 ∷ 1 ∷ 4 ∷ 8
+    ∷ 5 ∷ 53 ∷ 53 ∷ 153 ∷ 1 ∷ 201 ∷ [])
+
+pub record Row : Type 0 where
+  pub question : Question
+  pub answer : List ℕ
+
+abbrev row : Question → List ℕ → Row
+row q a = record { question = q; answer = a }
+
+abbrev pub table : List Row
+table =
+    row (under I8 (int 127)) (0 ∷ 5 ∷ 0 ∷ 127 ∷ 0 ∷ [])
+    ∷ row (under I8 (int 128)) (20 ∷ 7 ∷ NONE ∷ 0 ∷ 5 ∷ 8 ∷ [])
+    ∷ row (under I8 (Expr.unary 0 (int 128))) (20 ∷ 7 ∷ NONE ∷ 0 ∷ 5 ∷ 8 ∷ [])
+    ∷ row (under I8 (Expr.unary 0 (int (minus 128)))) (0 ∷ 5 ∷ 11 ∷ 0 ∷ 5 ∷ 0 ∷ 4294967168 ∷ 4294967295 ∷ [])
+    ∷ row (under (ResolvedType.sub 1 1) (int (minus 2))) (20 ∷ 7 ∷ NONE ∷ 0 ∷ 16 ∷ 1 ∷ 1 ∷ 8 ∷ [])
+    ∷ row (under (ResolvedType.sub 1 1) (int (minus 1))) (0 ∷ 16 ∷ 1 ∷ 1 ∷ 0 ∷ 4294967295 ∷ 4294967295 ∷ [])
+    ∷ row (under (ResolvedType.sub 1 1) (int 0)) (0 ∷ 16 ∷ 1 ∷ 1 ∷ 0 ∷ 0 ∷ 0 ∷ [])
+    ∷ row (under (ResolvedType.sub 1 1) (int 1)) (20 ∷ 7 ∷ NONE ∷ 0 ∷ 16 ∷ 1 ∷ 1 ∷ 8 ∷ [])
+    ∷ row (under (ResolvedType.sub 0 64) (uint (2 ^ 64 - 1))) (0 ∷ 16 ∷ 0 ∷ 64 ∷ 1 ∷ 4294967295 ∷ 4294967295 ∷ [])
+    ∷ row (under (ResolvedType.sub 1 64) (uint 9223372036854775807)) (0 ∷ 16 ∷ 1 ∷ 64 ∷ 1 ∷ 4294967295 ∷ 2147483647 ∷ [])
+    ∷ row (under (ResolvedType.sub 1 64) (uint 9223372036854775808)) (20 ∷ 7 ∷ NONE ∷ 1 ∷ 16 ∷ 1 ∷ 64 ∷ 4 ∷ [])
+    ∷ row (under BOOL (Expr.binary 6 (int 1) (int 2))) (0 ∷ 0 ∷ 10 ∷ 6 ∷ 8 ∷ 0 ∷ 1 ∷ 0 ∷ 8 ∷ 0 ∷ 2 ∷ 0 ∷ [])
+    ∷ row (typing [] none (Expr.binary 0 (int 1) (uint 2))) (0 ∷ 8 ∷ 10 ∷ 0 ∷ 8 ∷ 0 ∷ 1 ∷ 0 ∷ 8 ∷ 1 ∷ 2 ∷ 0 ∷ [])
+    ∷ row (typing [] none (Expr.unary 0 (uint 1))) (21 ∷ 7 ∷ NONE ∷ 10 ∷ 4 ∷ [])
+    ∷ row (typing (record { name = 3; ty = U8 } ∷ []) none (Expr.binary 4 (Expr.bool 1) (Expr.local 3))) (20 ∷ 7 ∷ NONE ∷ 6 ∷ 1 ∷ 0 ∷ [])
+    ∷ row (resolving optional-alias (record { name = 1; ty = STRING } ∷ []) (TypeExpr.two 68 (TypeExpr.generic 0 (TypeExpr.named 1)) (TypeExpr.named 1))) (0 ∷ 6 ∷ 68 ∷ 64 ∷ 32 ∷ 32 ∷ [])
+    ∷ row (printing whole-image) (0 ∷ NONE ∷ NONE ∷ 48 ∷ 1 ∷ 1 ∷ 0 ∷ 0 ∷ 1 ∷ 1 ∷ 1 ∷ 2 ∷ 1 ∷ 1 ∷ 0 ∷ 5 ∷ 0 ∷ [])
+    ∷ []

@@ -1,0 +1,3 @@
+// The rules of document 01 stand in specs/; here is the vocabulary that the code shares with them.
+pub mod ids;
+pub mod kinds;
