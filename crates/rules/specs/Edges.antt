@@ -1,19 +1,22 @@
--- At the edges: the P cases as one table, a question with its answer's words in each row. The claim that every row holds stands in proofs/.
+-- At the edges: document 01's P cases as one table, a question with its answer's words in each row, and rows that guard what is easy to get wrong.
+-- The claims that every row holds stand in proofs/.
 use Prim.Native.Nat.{ℕ, _^_, _-_, _/_, _%_}
 use mathlib.Core.List.{List, [], _∷_, _++_}
 use mathlib.Core.Option.{Option, none, some}
 use Rattle.rules.specs.Words.{NONE, bytes-of}
-use Rattle.rules.specs.Syntax.{ResolvedType, TypeExpr, Expr, Param, Name, TypeDef, CompiledSchema, run}
-use Rattle.rules.specs.Types.{BOOL, STRING}
+use Rattle.rules.specs.Syntax.{ResolvedType, TypeExpr, Expr, FnBody, Param, Name, ImplFnDef, TraitReturn, TraitFnDef, TypeDef, CompiledSchema, run}
+use Rattle.rules.specs.Types.{BOOL, STRING, I64}
 use Rattle.rules.specs.Refusal.{Result, ok, err}
 use Rattle.rules.specs.Substitute.{Counted, too-large, done, substitute-type}
 use Rattle.rules.specs.Infer.{PortableExpr, infer-expr}
 use Rattle.rules.specs.Output.{value-words}
+use Rattle.rules.specs.Answer.{project-call}
 use Rattle.rules.specs.Projone.{projone}
 
 pub data Question : Type 0 where
   typing : List (Param ResolvedType) → Option ResolvedType → Expr → Question  -- locals, expected type, an expression of function 7, in context 3
   resolving : CompiledSchema → List (Param ResolvedType) → TypeExpr → Question
+  projecting : ℕ → CompiledSchema → Question  -- an implementation's row
   printing : List ℕ → Question  -- what projone prints of an image, line after line
 
 -- typed: 0 and the value's words; refused: number, names, detail words
@@ -26,6 +29,11 @@ unfoldable pub counted-words : Counted ResolvedType → List ℕ
 counted-words too-large = 8 ∷ []
 counted-words (done visits t) = 0 ∷ visits ∷ run t
 
+-- projected: 0, the visits and the output words; refused: as above
+unfoldable pub projected-words : Result (ℕ × List ℕ) → List ℕ
+projected-words (ok p) = 0 ∷ p .0 ∷ p .1
+projected-words (err r) = r .number ∷ r .function ∷ r .second ∷ r .detail
+
 unfoldable pub joined : List (List ℕ) → List ℕ
 joined [] = []
 joined (l ∷ ls) = l ++ joined ls
@@ -33,6 +41,7 @@ joined (l ∷ ls) = l ++ joined ls
 unfoldable pub answer-to : Question → List ℕ
 answer-to (typing locals expected e) = typed-words (infer-expr (record { function = 7; locals = locals; fields = []; self-type = ResolvedType.named 0 }) e expected 3)
 answer-to (resolving schema params e) = counted-words (substitute-type schema params e)
+answer-to (projecting row schema) = projected-words (project-call row schema)
 answer-to (printing image) = joined (projone image)
 
 -- Int and UInt of a number's 64 bits
@@ -97,4 +106,38 @@ table =
     ∷ row (typing (record { name = 3; ty = U8 } ∷ []) none (Expr.binary 4 (Expr.bool 1) (Expr.local 3))) (20 ∷ 7 ∷ NONE ∷ 6 ∷ 1 ∷ 0 ∷ [])
     ∷ row (resolving optional-alias (record { name = 1; ty = STRING } ∷ []) (TypeExpr.two 68 (TypeExpr.generic 0 (TypeExpr.named 1)) (TypeExpr.named 1))) (0 ∷ 6 ∷ 68 ∷ 64 ∷ 32 ∷ 32 ∷ [])
     ∷ row (printing whole-image) (0 ∷ NONE ∷ NONE ∷ 48 ∷ 1 ∷ 1 ∷ 0 ∷ 0 ∷ 1 ∷ 1 ∷ 1 ∷ 2 ∷ 1 ∷ 1 ∷ 0 ∷ 5 ∷ 0 ∷ [])
+    ∷ []
+
+-- names A (0), T (1), and B (2), which is an alias to u16 and a definition too; A<T> = A<T> is definition 0
+abbrev cyclic-alias : CompiledSchema
+cyclic-alias = record {
+  names = record { text = 65 ∷ []; definition = 0; alias = none } ∷ record { text = 84 ∷ []; definition = NONE; alias = none }
+      ∷ record { text = 66 ∷ []; definition = 0; alias = some (ResolvedType.plain 2) } ∷ [];
+  definitions = TypeDef.generic-alias (record { type-params = 1 ∷ []; target-type = TypeExpr.generic 0 (TypeExpr.named 1) }) ∷ [];
+}
+
+-- a trait (0) that asks for functions without parameters, a message (1), an implementation (2) that lists functions with empty bodies
+abbrev asked : ℕ → TraitFnDef
+asked f = record { name = f; params = []; return-type = TraitReturn.no-return }
+
+abbrev empty : ℕ → ImplFnDef
+empty f = record { name = f; params = []; return-type = none; body = FnBody.block [] }
+
+abbrev implements : List TraitFnDef → List ImplFnDef → CompiledSchema
+implements asks has = record {
+  names = [];
+  definitions = TypeDef.trait (record { name = 0; type-params = []; functions = asks }) ∷ TypeDef.message (record { fields = [] })
+      ∷ TypeDef.implementation (record { trait-id = 0; trait-name = 0; target-type = ResolvedType.named 1; type-args = []; functions = has }) ∷ [];
+}
+
+-- an alias to a primitive before a definition; outer parameters hidden from a target; a cycle; u8 and sub-byte u8; 9 before 10, 10 before 11; trait order
+abbrev pub guards : List Row
+guards =
+    row (resolving cyclic-alias [] (TypeExpr.named 2)) (0 ∷ 1 ∷ 2 ∷ [])
+    ∷ row (resolving optional-alias (record { name = 1; ty = STRING } ∷ []) (TypeExpr.generic 0 (TypeExpr.leaf I64))) (0 ∷ 4 ∷ 64 ∷ 8 ∷ [])
+    ∷ row (resolving cyclic-alias [] (TypeExpr.generic 0 (TypeExpr.leaf I64))) (8 ∷ [])
+    ∷ row (typing (record { name = 3; ty = ResolvedType.sub 0 8 } ∷ []) (some U8) (Expr.local 3)) (20 ∷ 7 ∷ NONE ∷ 3 ∷ 1 ∷ 16 ∷ 0 ∷ 8 ∷ [])
+    ∷ row (projecting 2 (implements (asked 4 ∷ []) (empty 5 ∷ empty 4 ∷ empty 4 ∷ []))) (9 ∷ 4 ∷ NONE ∷ [])
+    ∷ row (projecting 2 (implements (asked 4 ∷ []) (empty 5 ∷ []))) (10 ∷ 5 ∷ NONE ∷ [])
+    ∷ row (projecting 2 (implements (asked 4 ∷ asked 5 ∷ []) (empty 5 ∷ empty 4 ∷ []))) (0 ∷ 0 ∷ 2 ∷ 4 ∷ 0 ∷ 0 ∷ 0 ∷ 5 ∷ 0 ∷ 0 ∷ 0 ∷ [])
     ∷ []
