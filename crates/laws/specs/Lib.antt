@@ -1,1 +1,6 @@
 pub mod Good
+pub mod Reads
+pub mod Gives
+pub mod Exact
+pub mod Codes
+pub mod Types
