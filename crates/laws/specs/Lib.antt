@@ -4,3 +4,5 @@ pub mod Gives
 pub mod Exact
 pub mod Codes
 pub mod Types
+pub mod Same
+pub mod TypeExprs
