@@ -6,3 +6,6 @@ pub mod Codes
 pub mod Types
 pub mod Same
 pub mod TypeExprs
+pub mod Visits
+pub mod Depth
+pub mod Widths
