@@ -9,3 +9,6 @@ pub mod TypeExprs
 pub mod Visits
 pub mod Depth
 pub mod Widths
+pub mod Runs
+pub mod Expressions
+pub mod Statements
