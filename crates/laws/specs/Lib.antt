@@ -12,3 +12,5 @@ pub mod Widths
 pub mod Runs
 pub mod Expressions
 pub mod Statements
+pub mod DefinitionRuns
+pub mod Definitions
