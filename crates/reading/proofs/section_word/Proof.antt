@@ -1,0 +1,15 @@
+use mathlib.Core.Path.{_∙_}
+use Rattle.reading.specs.Sections.{section-at, section-past}
+use borrow.Author.Needs.{needs}
+use Rattle.reading.proofs.section_word.Statement.{statement}
+use Rattle.reading.proofs.section_word.Tie as tie
+
+pub section-word-spec : {M : Type 1} → statement M
+section-word-spec =
+    tie.close
+    (tie.spec
+    (λ c. section-past (c .before .before .before .pre) _ (c .if1 .taken))
+    (λ c. search needs)
+    (λ c. search needs)
+    (λ c κs. search needs)
+    (λ c. c .word-at .ensures ∙ section-at (c .before .before .before .before .before .pre) _ (c .before .before .if1 .left)))

@@ -1,0 +1,6 @@
+pub mod Verdict
+pub mod Sections
+pub mod Steps
+pub mod Gives
+pub mod Says
+pub mod Loops
