@@ -1,0 +1,10 @@
+-- `held::types::HeldType::named` meets its contract. Assumes nothing.
+use mathlib.Core.Path.{refl}
+use lib.Dec.{lit≤}
+use borrow.Author.Needs.{needs}
+use Rattle.held.proofs.Runs.{counted}
+use Rattle.held.proofs.types.HeldType.named.Statement.{statement}
+use Rattle.held.proofs.types.HeldType.named.Tie as tie
+
+pub named-spec : {M : Type 1} → statement M
+named-spec = tie.close (tie.spec (λ c. search needs) (λ c. search needs) (λ c. counted _ _ 2 refl (lit≤ tt) refl))

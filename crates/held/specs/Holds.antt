@@ -1,0 +1,31 @@
+-- What it is to hold a type of the rules.
+use Prim.Native.Nat.{ℕ, _≤_}
+use mathlib.Core.Path.{_≡_}
+use mathlib.Core.Bool.{true, false}
+use mathlib.Core.Option.{Option, none, some}
+use lib.ListN.{length}
+use lib.Dec.{leb}
+use Rattle.rules.specs.Syntax as Syntax
+use Rattle.rules.specs.Syntax.{ResolvedType}
+use Rattle.laws.specs.Good.{Good}
+use Rattle.held.specs.declared.types.HeldType.{HeldType}
+use Rattle.held.specs.declared.types.Grown.{Grown}
+use Rattle.held.specs.declared.types.MaybeType.{MaybeType}
+use Rattle.held.specs.Runs.{held-run}
+
+-- h holds the type t, over the number of name rows
+pub record Holds (names : ℕ) (h : HeldType) (t : ResolvedType) : Type 0 where
+  pub run : held-run h ≡ Syntax.run t
+  pub count : h .len ≡ length (Syntax.run t)
+  pub small : h .len ≤ 64
+  pub good : Good names t
+
+-- m holds an optional type
+abbrev pub MaybeHolds : ℕ → MaybeType → Option ResolvedType → Type 0
+MaybeHolds names m none = m .some ≡ false
+MaybeHolds names m (some t) = (m .some ≡ true) × Holds names (m .ty) t
+
+-- r holds the type t where its run has at most 64 words, and is not ok where it has more
+pub record Built (names : ℕ) (r : Grown) (t : ResolvedType) : Type 0 where
+  pub ok : r .ok ≡ leb (length (Syntax.run t)) 64
+  pub holds : r .ok ≡ true → Holds names (r .ty) t
