@@ -1,4 +1,5 @@
 pub mod Good
+pub mod Each
 pub mod Reads
 pub mod Gives
 pub mod Exact
@@ -14,3 +15,8 @@ pub mod Expressions
 pub mod Statements
 pub mod DefinitionRuns
 pub mod Definitions
+pub mod GoodSchema
+pub mod Substitution
+pub mod Schema
+pub mod Typed
+pub mod TypedRuns

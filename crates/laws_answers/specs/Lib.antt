@@ -1,0 +1,4 @@
+pub mod Ends
+pub mod Expected
+pub mod Values
+pub mod Projected
