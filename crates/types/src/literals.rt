@@ -1,0 +1,1 @@
+// Which literals a type takes.
