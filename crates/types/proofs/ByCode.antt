@@ -16,7 +16,7 @@ use Rattle.laws.specs.Good.{Good}
 use Rattle.held.specs.declared.types.HeldType.{HeldType}
 use Rattle.held.specs.Holds.{Holds}
 use Rattle.held.proofs.Codes.{in-within, off-within, primitive-in, semantic-in}
-use Rattle.types.proofs.Heads.{word, word-of, held-word, head-off, same-plain}
+use Rattle.types.proofs.Heads.{word, word-of, held-word, Off, one-off, two-off, plain-not-sub, same-plain}
 
 unfoldable pub numeric-code : ℕ → Bool
 numeric-code c = within 1 12 c || eqb c 16
@@ -75,19 +75,6 @@ float-in c a b = go (ℕ-discrete c 9)
 pub float-off : (c : ℕ) → (9 ≤ c → 10 < c) → float-code c ≡ false
 unfolding float-code
 float-off c h = rw (ne-eqb c 9 (λ q. omega (arith, h (omega arith))), ne-eqb c 10 (λ q. omega (arith, h (omega arith))))
-
--- a container's code is no number's
-abbrev Off : ℕ → Type 0
-Off c = (14 ≤ c) × (c ≡ 16 → ⊥)
-
-one-off : {c : ℕ} → type-kind c ≡ TypeKind.One → Off c
-one-off k = head-off TypeKind.One k (λ e. let z : _≡_ {A = ℕ} 0 1 = cc in omega arith) (λ e. let z : _≡_ {A = ℕ} 0 1 = cc in omega arith)
-
-two-off : {c : ℕ} → type-kind c ≡ TypeKind.Two → Off c
-two-off k = head-off TypeKind.Two k (λ e. let z : _≡_ {A = ℕ} 0 1 = cc in omega arith) (λ e. let z : _≡_ {A = ℕ} 0 1 = cc in omega arith)
-
-plain-not-sub : {c : ℕ} → type-kind c ≡ TypeKind.Plain → c ≡ 16 → ⊥
-plain-not-sub k e = let q : type-kind 16 ≡ TypeKind.Sub = unfold type-kind in refl in let r : type-kind 16 ≡ TypeKind.Plain = sym (ap type-kind e) ∙ k in let z : _≡_ {A = ℕ} 0 1 = cc in omega arith
 
 or-false : (b : Bool) → b ≡ (b || false)
 or-false true = refl

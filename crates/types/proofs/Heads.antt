@@ -30,12 +30,25 @@ pub held-word : {names : ℕ} {h : HeldType} {t : ResolvedType} (i : ℕ) → Ho
 held-word i p = sym (ap (λ (l : List ℕ). getD l i 0) (p .run))
 
 -- a code of another kind is neither a primitive's nor sub-byte's
-pub head-off : {c : ℕ} (k : TypeKind) → type-kind c ≡ k → (k ≡ TypeKind.Plain → ⊥) → (k ≡ TypeKind.Sub → ⊥) → (14 ≤ c) × (c ≡ 16 → ⊥)
+head-off : {c : ℕ} (k : TypeKind) → type-kind c ≡ k → (k ≡ TypeKind.Plain → ⊥) → (k ≡ TypeKind.Sub → ⊥) → (14 ≤ c) × (c ≡ 16 → ⊥)
 head-off {c} k e p s = (go (ltb c 14) refl, λ q. s (sym e ∙ sub-at q))
   where
     go : (b : Bool) → ltb c 14 ≡ b → 14 ≤ c
     go true q = absurd (p (sym e ∙ primitive-in c (ltb-true c 14 q)))
     go false q = ltb-false c 14 q
+
+-- a container's code is no number's
+abbrev pub Off : ℕ → Type 0
+Off c = (14 ≤ c) × (c ≡ 16 → ⊥)
+
+pub one-off : {c : ℕ} → type-kind c ≡ TypeKind.One → Off c
+one-off k = head-off TypeKind.One k (λ e. let z : _≡_ {A = ℕ} 0 1 = cc in omega arith) (λ e. let z : _≡_ {A = ℕ} 0 1 = cc in omega arith)
+
+pub two-off : {c : ℕ} → type-kind c ≡ TypeKind.Two → Off c
+two-off k = head-off TypeKind.Two k (λ e. let z : _≡_ {A = ℕ} 0 1 = cc in omega arith) (λ e. let z : _≡_ {A = ℕ} 0 1 = cc in omega arith)
+
+pub plain-not-sub : {c : ℕ} → type-kind c ≡ TypeKind.Plain → c ≡ 16 → ⊥
+plain-not-sub k e = let q : type-kind 16 ≡ TypeKind.Sub = unfold type-kind in refl in let r : type-kind 16 ≡ TypeKind.Plain = sym (ap type-kind e) ∙ k in let z : _≡_ {A = ℕ} 0 1 = cc in omega arith
 
 -- a type whose code is plain is that leaf
 pub plain-head : (names : ℕ) (t : ResolvedType) → Good names t → type-kind (word-of t 0) ≡ TypeKind.Plain → t ≡ ResolvedType.plain (word-of t 0)

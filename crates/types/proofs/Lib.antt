@@ -5,3 +5,6 @@ pub mod Returns
 pub mod Equal
 pub mod Walk
 pub mod Poison
+pub mod Widths
+pub mod ByRange
+pub mod Given
