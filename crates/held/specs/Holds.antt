@@ -29,3 +29,7 @@ MaybeHolds names m (some t) = (m .some ≡ true) × Holds names (m .ty) t
 pub record Built (names : ℕ) (r : Grown) (t : ResolvedType) : Type 0 where
   pub ok : r .ok ≡ leb (length (Syntax.run t)) 64
   pub holds : r .ok ≡ true → Holds names (r .ty) t
+
+-- a property of every type that h holds
+abbrev pub Each : HeldType → (ResolvedType → Type 0) → Type 0
+Each h P = (names : ℕ) (t : ResolvedType) → Holds names h t → P t

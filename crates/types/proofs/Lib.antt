@@ -1,0 +1,10 @@
+-- Laws of the tests.
+pub mod Heads
+pub mod ByCode
+pub mod Returns
+pub mod Equal
+pub mod Walk
+pub mod Poison
+pub mod Widths
+pub mod ByRange
+pub mod Given

@@ -1,0 +1,47 @@
+-- Void as a return means none. Assumes nothing.
+use Prim.Native.Nat.{ℕ}
+use native.Mathlib.Omega.{arith}
+use mathlib.Core.Path.{_≡_, refl, sym, ap, _∙_, subst}
+use mathlib.Core.Bool.{Bool, true, false, false≢true}
+use mathlib.Core.Option.{Option, none, some}
+use lib.Dec.{eqb}
+use borrow.Author.Tests.{eq-eqb, ne-eqb}
+use Rattle.rules.specs.Syntax.{ResolvedType}
+use Rattle.rules.specs.Types.{VOID, same-type, normalize-return}
+use Rattle.held.specs.declared.types.MaybeType.{MaybeType}
+use Rattle.held.specs.Holds.{Holds, MaybeHolds}
+use Rattle.held.proofs.Codes.{primitive-in}
+use Rattle.types.proofs.Heads.{word, word-of, held-word, same-plain}
+
+-- a test that a held type is Void, by its code
+void-code : {names : ℕ} (m : MaybeType) (t : ResolvedType) → Holds names (m .ty) t → same-type t VOID ≡ eqb (word (m .ty) 0) 13
+void-code {names} m t p = same-plain names t 13 (p .good) (primitive-in 13 (omega arith)) ∙ ap (λ (w : ℕ). eqb w 13) (held-word 0 p)
+
+-- a return by that test
+picked : Bool → ResolvedType → Option ResolvedType
+picked true t = none
+picked false t = some t
+
+normal : (t : ResolvedType) (b : Bool) → same-type t VOID ≡ b → normalize-return (some t) ≡ picked b t
+unfolding normalize-return picked
+normal t b e = go (same-type t VOID) b e
+  where
+    go : (a b : Bool) → a ≡ b → (elim a as (λ _. Option ResolvedType) [ true ↦ none | false ↦ some t ]) ≡ picked b t
+    go true true e = refl
+    go true false e = absurd (false≢true (sym e))
+    go false true e = absurd (false≢true e)
+    go false false e = refl
+
+module _ (names : ℕ) (m : MaybeType) where
+  pub void-return : (r : MaybeType) (o : Option ResolvedType) → MaybeHolds names m o → m .some ≡ true → word (m .ty) 0 ≡ 13 → r .some ≡ false → MaybeHolds names r (normalize-return o)
+  void-return r none h s e q = absurd (false≢true (sym h ∙ s))
+  void-return r (some t) h s e q = subst (λ (o : Option ResolvedType). MaybeHolds names r o) (sym (normal t true (void-code m t (h .1) ∙ eq-eqb (word (m .ty) 0) 13 e))) (unfold picked in q)
+
+  pub other-return : (o : Option ResolvedType) → MaybeHolds names m o → m .some ≡ true → (word (m .ty) 0 ≡ 13 → ⊥) → MaybeHolds names m (normalize-return o)
+  other-return none h s n = absurd (false≢true (sym h ∙ s))
+  other-return (some t) h s n = subst (λ (o : Option ResolvedType). MaybeHolds names m o) (sym (normal t false (void-code m t (h .1) ∙ ne-eqb (word (m .ty) 0) 13 n))) (unfold picked in h)
+
+  pub no-return : (o : Option ResolvedType) → MaybeHolds names m o → m .some ≡ false → MaybeHolds names m (normalize-return o)
+  unfolding normalize-return
+  no-return none h s = h
+  no-return (some t) h s = absurd (false≢true (sym s ∙ h .0))

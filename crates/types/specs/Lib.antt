@@ -1,0 +1,4 @@
+pub mod Tests
+pub mod Headers
+pub mod Ranges
+pub mod Literals

@@ -1,0 +1,14 @@
+-- Equality of held types.
+use Prim.Native.Nat.{ℕ}
+use mathlib.Core.Path.{_≡_}
+use mathlib.Core.Bool.{Bool}
+use Rattle.rules.specs.Words.{same}
+use Rattle.rules.specs.Types.{same-type}
+use Rattle.held.specs.declared.types.HeldType.{HeldType}
+use Rattle.held.specs.Runs.{held-run}
+use Rattle.held.specs.Holds.{Each}
+
+-- r says whether a and b have the same run, and so whether the types that they hold are the same
+pub record Same (a b : HeldType) (r : Bool) : Type 0 where
+  pub runs : r ≡ same (held-run a) (held-run b)
+  pub types : Each a (λ t. Each b (λ u. r ≡ same-type t u))

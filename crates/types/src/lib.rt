@@ -1,0 +1,3 @@
+// Type tests and literal fits.
+pub mod literals;
+pub mod tests;
