@@ -33,3 +33,14 @@ found (some b) r a e = cc
 
 pub same-ok : {A : Type 0} (a b : A) → ok a ≡ ok b → a ≡ b
 same-ok a b e = cc
+
+-- a step that is accepted goes on
+pub goes-on : {A B : Type 0} (r : Result A) (f : A → Result B) (a : A) (b : B) → r ≡ ok a → f a ≡ ok b → (r >>= f) ≡ ok b
+unfolding _>>=_
+goes-on (ok c) f a b p q = let e : c ≡ a = cc in rw e q
+goes-on (err r) f a b p q = absurd (no-ok r a p)
+
+pub is-there : {A : Type 0} (o : Option A) (r : Refusal) (a : A) → o ≡ some a → or-refuse o r ≡ ok a
+unfolding or-refuse
+is-there none r a e = absurd (let z : _≡_ {A = ℕ} 0 1 = cc in omega arith)
+is-there (some b) r a e = cc
