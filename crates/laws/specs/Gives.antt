@@ -1,7 +1,7 @@
 -- What a reader gives: the words that it took, and what holds of them and the value. A law for each combinator.
 use Prim.Native.Nat.{ℕ, _+_, _-_, _<_, _≤_}
 use mathlib.Core.Path.{_≡_, refl, sym, ap, subst, _∙_}
-use mathlib.Core.Bool.{Bool, true, false}
+use mathlib.Core.Bool.{Bool, true, false, cond}
 use mathlib.Core.List.{List, [], _∷_, _++_, append-assoc, append-nil}
 use mathlib.Core.Option.{Option, none, some}
 use native.Mathlib.Omega.{arith}
@@ -68,11 +68,15 @@ then-gives {A} {B} {r} {f} g h = record {
       };
 }
 
--- a last reading, and what is made of it
+-- a last reading: behind it no word is read
+pub end-gives : {A B : Type 0} {r : Reader A} {f : A → Reader B} {P : A → List ℕ → Type 0} (Q : B → List ℕ → Type 0)
+    → Gives r P → ((a : A) (ws : List ℕ) → P a ws → Gives (f a) (λ b vs. (vs ≡ []) × Q b ws)) → Gives (r >>= f) Q
+end-gives Q g h =
+    then-gives g (λ a vs p. so (h a vs p) (λ b ws i. subst (λ (l : List ℕ). Q b l) (sym (append-nil vs) ∙ ap (λ (l : List ℕ). vs ++ l) (sym (i .0))) (i .1)))
+
 pub last-gives : {A B : Type 0} {r : Reader A} {f : A → B} {P : A → List ℕ → Type 0} (Q : B → List ℕ → Type 0)
     → Gives r P → ((a : A) (ws : List ℕ) → P a ws → Q (f a) ws) → Gives (r >>= λ x. give (f x)) Q
-last-gives {A} {B} {r} {f} Q g h =
-    then-gives g (λ a vs p. give-gives (f a) (λ b ws. Q b (vs ++ ws)) (subst (λ (l : List ℕ). Q (f a) l) (sym (append-nil vs)) (h a vs p)))
+last-gives {A} {B} {r} {f} Q g h = end-gives Q g (λ a ws p. give-gives (f a) _ (refl, h a ws p))
 
 word-first : (at : ℕ) (ws : List ℕ) (w : ℕ) (q : Rest) → first at ws ≡ some (w, q) → (ws ≡ w ∷ q .left) × (q .at ≡ at + 1)
 unfolding first
@@ -103,6 +107,11 @@ below-gives {n} = word-then (λ w. rule-then (ltb w n) _ (λ e. give-gives w _ (
 
 pub below-then : {B : Type 0} {n : ℕ} {f : ℕ → Reader B} {Q : B → List ℕ → Type 0} → ((w : ℕ) → w < n → Gives (f w) (λ b ws. Q b (w ∷ ws))) → Gives (below n >>= f) Q
 below-then {B} {n} {f} {Q} h = then-gives below-gives (λ w vs e. so (h w (e .1)) (λ b ws i. subst (λ (l : List ℕ). Q b (l ++ ws)) (sym (e .0)) i))
+
+-- either of two readings
+pub cond-gives : {A : Type 0} {P : A → List ℕ → Type 0} (c : Bool) {r s : Reader A} → (c ≡ true → Gives r P) → (c ≡ false → Gives s P) → Gives (cond c r s) P
+cond-gives true g h = g refl
+cond-gives false g h = h refl
 
 -- at most 64 words
 pub sized-gives : {A : Type 0} {r : Reader A} {P : A → List ℕ → Type 0} → Gives r P → Gives (sized r) (λ a ws. P a ws × (length ws ≤ 64))

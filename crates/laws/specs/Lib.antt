@@ -1,4 +1,5 @@
 pub mod Good
+pub mod Each
 pub mod Reads
 pub mod Gives
 pub mod Exact
@@ -9,3 +10,10 @@ pub mod TypeExprs
 pub mod Visits
 pub mod Depth
 pub mod Widths
+pub mod Runs
+pub mod Expressions
+pub mod Statements
+pub mod DefinitionRuns
+pub mod Definitions
+pub mod GoodSchema
+pub mod Substitution
