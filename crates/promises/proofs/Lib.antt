@@ -6,3 +6,6 @@ pub mod Order
 pub mod Numbers
 pub mod Answers
 pub mod Promises
+pub mod Small
+pub mod FineTypes
+pub mod Substituted
