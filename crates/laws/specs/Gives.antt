@@ -5,7 +5,7 @@ use mathlib.Core.Bool.{Bool, true, false, cond}
 use mathlib.Core.List.{List, [], _∷_, _++_, append-assoc, append-nil}
 use mathlib.Core.Option.{Option, none, some}
 use native.Mathlib.Omega.{arith}
-use lib.ListN.{length, length-append}
+use lib.ListN.{length, drop, length-append}
 use lib.Dec.{ltb, leb}
 use borrow.Author.Tests.{ltb-true, leb-true}
 use Rattle.rules.specs.Reader.{Rest, rest-at, Reader, bound, _>>=_, give, fail, rule, here, first, word, below, from}
@@ -101,6 +101,11 @@ module _ {B : Type 0} {Q : B → List ℕ → Type 0} where
   rule-then true f h = record { found = λ p b q e. h refl .found p b q e }
   rule-then false f h = record { found = λ p b q e. absurd (no-some (b, q) e) }
 
+pub rule-gives : (c : Bool) → Gives (rule c) (λ u ws. Unit {0})
+unfolding rule give
+rule-gives true = give-gives tt _ tt
+rule-gives false = record { found = λ p b q e. absurd (no-some (b, q) e) }
+
 pub below-gives : {n : ℕ} → Gives (below n) (λ w ws. (ws ≡ w ∷ []) × (w < n))
 unfolding below
 below-gives {n} = word-then (λ w. rule-then (ltb w n) _ (λ e. give-gives w _ (refl, ltb-true w n e)))
@@ -131,15 +136,23 @@ sized-gives {A} {r} {P} g = record {
       };
 }
 
+-- words that stood in a list from a place on, of which P holds with the value
+pub record Stood {A : Type 0} (words : List ℕ) (start : ℕ) (P : A → List ℕ → Type 0) (a : A) : Type 0 where
+  pub taken : List ℕ
+  pub rest : List ℕ
+  pub there : drop start words ≡ taken ++ rest
+  pub holds : P a taken
+
 -- other words from a place on; the own words stay
 pub from-gives : {A : Type 0} {r : Reader A} {P : A → List ℕ → Type 0} (words : List ℕ) (start : ℕ)
-    → Gives r P → Gives (from words start r) (λ a ws. (ws ≡ []) × ((vs : List ℕ) × P a vs))
+    → Gives r P → Gives (from words start r) (λ a ws. (ws ≡ []) × Stood words start P a)
 unfolding from bound
 from-gives {A} {r} {P} words start g = record {
   found = λ p b q e.
       let s = both (r (rest-at words start)) (λ a _. some (a, p)) b q e in
       let x = g .found (rest-at words start) (s .value) (s .middle) (s .before) in
       let same : _≡_ {A = A × Rest} (s .value, p) (b, q) = cc (s .behind) in
-      subst (λ (y : A × Rest). Found (λ a ws. (ws ≡ []) × ((vs : List ℕ) × P a vs)) p (y .0) (y .1)) same
-      (record { words = []; left = refl; at = omega arith; holds = (refl, (x .words, x .holds)) });
+      let stood : Stood words start P (s .value) = record { taken = x .words; rest = s .middle .left; there = x .left; holds = x .holds } in
+      subst (λ (y : A × Rest). Found (λ a ws. (ws ≡ []) × Stood words start P a) p (y .0) (y .1)) same
+      (record { words = []; left = refl; at = omega arith; holds = (refl, stood) });
 }

@@ -17,3 +17,4 @@ pub mod DefinitionRuns
 pub mod Definitions
 pub mod GoodSchema
 pub mod Substitution
+pub mod Schema

@@ -43,7 +43,7 @@ depth-run (ResolvedType.one c t) = omega (arith, depth-run t)
 depth-run (ResolvedType.fixed low high t) = omega (arith, depth-run t)
 depth-run (ResolvedType.two c t u) = omega (arith, depth-run t, depth-run u, length-append (run t) (run u))
 
-within-true : (a b n : ℕ) → within a b n ≡ true → (a ≤ n) × (n ≤ b)
+pub within-true : (a b n : ℕ) → within a b n ≡ true → (a ≤ n) × (n ≤ b)
 within-true a b n e = go (leb a n) (leb n b) refl refl e
   where
     go : (x y : Bool) → leb a n ≡ x → leb n b ≡ y → (x && y) ≡ true → (a ≤ n) × (n ≤ b)
