@@ -9,3 +9,4 @@ pub mod Promises
 pub mod Small
 pub mod FineTypes
 pub mod Substituted
+pub mod ReadSmall

@@ -44,6 +44,10 @@ module _ {A : Type 0} (P : A → Type 0) where
   all-drop (suc n) [] h = tt
   all-drop (suc n) (x ∷ xs) h = all-drop n xs (h .1)
 
+pub all-both : {A : Type 0} (P Q R : A → Type 0) → ((x : A) → P x → Q x → R x) → (xs : List A) → All P xs → All Q xs → All R xs
+all-both P Q R k [] g h = tt
+all-both P Q R k (x ∷ xs) g h = (k x (g .0) (h .0), all-both P Q R k xs (g .1) (h .1))
+
 -- words one behind the other
 pub small-append : (xs ys : List ℕ) → Small xs → Small ys → Small (xs ++ ys)
 small-append xs ys g h = all-append (λ x. x < WORD) xs ys g h
