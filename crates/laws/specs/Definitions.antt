@@ -18,7 +18,7 @@ use Rattle.laws.specs.TypeExprs.{type-expr-exact}
 use Rattle.laws.specs.Statements.{body-exact}
 use Rattle.laws.specs.DefinitionRuns.{Few, own, typed-words, message-words, generic-alias-words, trait-return-words, trait-function-words, trait-words, impl-function-words, implementation-words, GoodParam, GoodMessage, GoodAlias, GoodReturn, GoodTraitFunction, GoodTrait, GoodFunction, GoodImpl}
 
-few-exact : {A : Type 0} {r : Reader A} {words : A → List ℕ} {Good : A → Type 0} → Exact r words Good → (most : ℕ) → Exact (many most r) (listed words) (Few most Good)
+pub few-exact : {A : Type 0} {r : Reader A} {words : A → List ℕ} {Good : A → Type 0} → Exact r words Good → (most : ℕ) → Exact (many most r) (listed words) (Few most Good)
 few-exact e most = record {
   reads = λ xs g. many-exact e most .reads xs (g .few, g .each);
   gives = gives.so (many-exact e most .gives) (λ xs ws h. record { is = h .is; good = record { few = h .good .0; each = h .good .1 } });

@@ -18,7 +18,7 @@ use Rattle.laws.specs.Exact.{Exact, Run}
 use Rattle.laws.specs.Types.{wide-then, wide-gives}
 use Rattle.laws.specs.Runs.{count, expr-words, exprs-words, nesting, nestings, GoodValue, GoodValues, Nested}
 
-literal-kind : (c : ℕ) → c < 3 → expr-kind c ≡ ExprKind.Literal
+pub literal-kind : (c : ℕ) → c < 3 → expr-kind c ≡ ExprKind.Literal
 unfolding expr-kind
 literal-kind c h = rw (lt-ltb c 3 h)
 

@@ -18,3 +18,5 @@ pub mod Definitions
 pub mod GoodSchema
 pub mod Substitution
 pub mod Schema
+pub mod Typed
+pub mod TypedRuns
