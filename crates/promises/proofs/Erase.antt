@@ -101,7 +101,7 @@ returned c (some t) (some e) w q =
     ap erase-option (sym (same-ok _ _ (s .behind))) ∙ ap some (inferred c e (some t) 4 (s .value) (s .before))
 
 -- an assigned field is a field of SelfRef
-assigned : (f : ℕ) (e : Expr) (x : ℕ) → assigned-field f (place e) ≡ ok x → e ≡ Expr.field-access x Expr.self-ref
+pub assigned : (f : ℕ) (e : Expr) (x : ℕ) → assigned-field f (place e) ≡ ok x → e ≡ Expr.field-access x Expr.self-ref
 unfolding assigned-field place field-of
 assigned f (Expr.literal c l h) x q = absurd (no-ok _ _ q)
 assigned f (Expr.bool b) x q = absurd (no-ok _ _ q)

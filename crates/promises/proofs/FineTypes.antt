@@ -1,4 +1,4 @@
--- Fine types: good ones whose words are small, whatever the number of name rows.
+-- Fine types: those that a pool could hold and whose words are small, whatever the number of name rows.
 use Prim.Native.Nat.{ℕ, _<_, _≤_}
 use mathlib.Core.Path.{_≡_, refl}
 use mathlib.Core.Bool.{Bool, true, false, cond}
@@ -13,10 +13,11 @@ use Rattle.rules.specs.Fits.{literal-own}
 use Rattle.rules.specs.Options.{or-else}
 use Rattle.rules.specs.Infer.{find-last}
 use Rattle.laws.specs.Good.{All, AllOption, Good}
+use Rattle.laws.specs.Types.{Stored}
 use Rattle.promises.proofs.Small.{WORD, Small, below-more}
 
 pub record Fine (t : ResolvedType) : Type 0 where
-  pub good : Good WORD t
+  pub stored : Stored WORD t
   pub small : Small (run t)
 
 -- a name with a fine type
@@ -25,7 +26,7 @@ pub record FineParam (p : Param ResolvedType) : Type 0 where
   pub ty : Fine (p .ty)
 
 -- what is good over few names is good over many
-pub good-more : (m n : ℕ) (t : ResolvedType) → m ≤ n → Good m t → Good n t
+good-more : (m n : ℕ) (t : ResolvedType) → m ≤ n → Good m t → Good n t
 good-more m n (ResolvedType.plain c) l g = g
 good-more m n (ResolvedType.sub s b) l g = g
 good-more m n (ResolvedType.bits ns) l g = (g .0, below-more m n ns l (g .1))
@@ -34,22 +35,25 @@ good-more m n (ResolvedType.one c t) l g = (g .0, good-more m n t l (g .1))
 good-more m n (ResolvedType.fixed low high t) l g = good-more m n t l g
 good-more m n (ResolvedType.two c t u) l g = (g .0, good-more m n t l (g .1), good-more m n u l (g .2))
 
+pub stored-fine : (names : ℕ) (t : ResolvedType) → names ≤ WORD → Stored names t → Small (run t) → Fine t
+stored-fine names t l g h = record { stored = record { good = good-more names WORD t l (g .good); short = g .short }; small = h }
+
 pub fine-bool : Fine BOOL
 unfolding run type-kind
-fine-bool = record { good = refl; small = (omega arith, tt) }
+fine-bool = record { stored = record { good = refl; short = omega arith }; small = (omega arith, tt) }
 
 pub fine-string : Fine STRING
 unfolding run type-kind
-fine-string = record { good = refl; small = (omega arith, tt) }
+fine-string = record { stored = record { good = refl; short = omega arith }; small = (omega arith, tt) }
 
 pub fine-own : (c : ℕ) → Fine (literal-own c)
 unfolding literal-own run type-kind
 fine-own c = go (eqb c 0) (eqb c 1)
   where
     go : (a b : Bool) → Fine (cond a I64 (cond b U64 F64))
-    go true b = record { good = refl; small = (omega arith, tt) }
-    go false true = record { good = refl; small = (omega arith, tt) }
-    go false false = record { good = refl; small = (omega arith, tt) }
+    go true b = record { stored = record { good = refl; short = omega arith }; small = (omega arith, tt) }
+    go false true = record { stored = record { good = refl; short = omega arith }; small = (omega arith, tt) }
+    go false false = record { stored = record { good = refl; short = omega arith }; small = (omega arith, tt) }
 
 pub fine-normal : (o : Option ResolvedType) → AllOption Fine o → AllOption Fine (normalize-return o)
 unfolding normalize-return

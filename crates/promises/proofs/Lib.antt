@@ -10,3 +10,7 @@ pub mod Small
 pub mod FineTypes
 pub mod Substituted
 pub mod ReadSmall
+pub mod FineValues
+pub mod FineBodies
+pub mod FineSignatures
+pub mod FineFunctions

@@ -22,7 +22,7 @@ below-more m n [] l h = tt
 below-more m n (x ∷ xs) l h = (omega (arith, h .0), below-more m n xs l (h .1))
 
 module _ {A : Type 0} (P : A → Type 0) where
-  all-append : (xs ys : List A) → All P xs → All P ys → All P (xs ++ ys)
+  pub all-append : (xs ys : List A) → All P xs → All P ys → All P (xs ++ ys)
   all-append [] ys g h = h
   all-append (x ∷ xs) ys g h = (g .0, all-append xs ys (g .1) h)
 
@@ -43,6 +43,10 @@ module _ {A : Type 0} (P : A → Type 0) where
   all-drop zero xs h = h
   all-drop (suc n) [] h = tt
   all-drop (suc n) (x ∷ xs) h = all-drop n xs (h .1)
+
+pub all-map : {A : Type 0} (P Q : A → Type 0) → ((x : A) → P x → Q x) → (xs : List A) → All P xs → All Q xs
+all-map P Q k [] g = tt
+all-map P Q k (x ∷ xs) g = (k x (g .0), all-map P Q k xs (g .1))
 
 pub all-both : {A : Type 0} (P Q R : A → Type 0) → ((x : A) → P x → Q x → R x) → (xs : List A) → All P xs → All Q xs → All R xs
 all-both P Q R k [] g h = tt
