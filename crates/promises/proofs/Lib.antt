@@ -1,0 +1,16 @@
+pub mod Results
+pub mod Erase
+pub mod Parts
+pub mod Listing
+pub mod Order
+pub mod Numbers
+pub mod Answers
+pub mod Promises
+pub mod Small
+pub mod FineTypes
+pub mod Substituted
+pub mod ReadSmall
+pub mod FineValues
+pub mod FineBodies
+pub mod FineSignatures
+pub mod FineFunctions

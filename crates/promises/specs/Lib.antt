@@ -1,0 +1,4 @@
+pub mod Bare
+pub mod Order
+pub mod Written
+pub mod Promises
