@@ -17,9 +17,10 @@ use Rattle.reading.specs.Verdict.{section-words}
 use Rattle.reading.specs.Steps.{true-false}
 use Rattle.layout.specs.declared.Layout.{Layout}
 use Rattle.layout.specs.declared.Opened.{Opened}
+use Rattle.layout.specs.Readers.{rows-of}
 use Rattle.sections.specs.declared.Trailer.{Trailer}
 use Rattle.sections.specs.Trailers.{meant, IsTrailer, Tells}
-use Rattle.sections.specs.Laid.{value, rows-of, Laid, Read}
+use Rattle.sections.specs.Laid.{value, Laid, Read}
 use Rattle.sections.proofs.Trailers.{bounds, parts}
 
 -- a trailer by its six words
@@ -86,10 +87,11 @@ module _ (image : List ℕ) where
       unfolding sections
       reads =
           let same : sections image (length image) (meant t) (rest-at [] 0) ≡ rows-of image l (rest-at [] 0) = cc (
-          section-part image (l .names .words) (tells .names .start) (tells .names .stop),
-          section-part image (l .strings .words) (tells .strings .start) (tells .strings .stop),
-          section-part image (l .pool) (tells .pool-start) (tells .pool-stop),
-          section-part image (l .definitions .words) (tells .definitions .start) (tells .definitions .stop)) in
+            section-part image (l .names .words) (tells .names .start) (tells .names .stop),
+            section-part image (l .strings .words) (tells .strings .start) (tells .strings .stop),
+            section-part image (l .pool) (tells .pool-start) (tells .pool-stop),
+            section-part image (l .definitions .words) (tells .definitions .start) (tells .definitions .stop),
+          ) in
           opened ∙ ap value (passed _ _ good ∙ same)
 
       pub laid : Laid image l

@@ -4,19 +4,12 @@ use mathlib.Core.Path.{_≡_}
 use mathlib.Core.Bool.{true, false}
 use mathlib.Core.List.{List, []}
 use mathlib.Core.Option.{Option, none, some}
-use Rattle.rules.specs.Syntax.{CompiledSchema}
-use Rattle.rules.specs.Reader.{Reader, Rest, rest-at}
+use Rattle.rules.specs.Reader.{Rest, rest-at}
 use Rattle.rules.specs.Image.{rows, readable}
-use Rattle.reading.specs.Verdict.{section-words}
 use Rattle.layout.specs.declared.Layout.{Layout}
 use Rattle.layout.specs.declared.Opened.{Opened}
 use Rattle.layout.specs.Rows.{Cut}
-
--- the rules' rows, over a layout's sections
-abbrev pub rows-of : List ℕ → Layout → Reader CompiledSchema
-rows-of image l =
-    rows image (l .texts) (section-words image (l .pool)) (l .names .rows) (l .strings .rows) (l .definitions .rows)
-    (section-words image (l .names .words)) (section-words image (l .strings .words)) (section-words image (l .definitions .words))
+use Rattle.layout.specs.Readers.{rows-of}
 
 -- what was read, without the place
 abbrev pub value : {A : Type 0} → Option (A × Rest) → Option A

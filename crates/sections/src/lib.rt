@@ -13,7 +13,9 @@ ghost use Rattle.sections.specs.Laid.{Read};
 
 // Words of a row. What a definition row of format 1 has stands here; the layout hands it on.
 const NAME_WORDS: usize = 4;
+
 const STRING_WORDS: usize = 2;
+
 const DEFINITION_WORDS: usize = 2;
 
 // Where the sections start, the format, and the image's length.

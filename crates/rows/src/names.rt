@@ -1,0 +1,47 @@
+// Name rows: each by itself, and all of them with their texts.
+use layout::Layout;
+use rules::ids::NameId;
+use rules::ids::TypeId;
+ghost use Prim.Native.Nat.{_+_, _*_, _<_};
+ghost use Rattle.rules.specs.Reader.{times};
+ghost use Rattle.reading.specs.Verdict.{section-words, Says};
+ghost use Rattle.layout.specs.Rows.{Cut};
+ghost use Rattle.layout.specs.Readers.{name-row-of};
+ghost use Rattle.rows.specs.Verdict.{verdict};
+
+// A text of 1 to 255 bytes inside the texts, a definition that exists or NONE, an alias's type or NONE.
+fn check_name_row(image: &[u8], l: Layout, i: u32) -> bool
+    requires { ⌜ Cut (now image) l × (i < l .names .rows) ⌝ }
+    ensures { λ r. ⌜ Says (name-row-of (now (image .entry)) l) (section-words (now (image .entry)) (l .names .words)) (l .names .width * i) (verdict r (l .names .width * (i + 1))) ⌝ }
+{
+    let row = layout::name_row(image, l, NameId(i));
+    let size = row.size as usize;
+    if !((1 <= size) & (size <= 255) & (row.start as usize + size <= l.texts)) {
+        return false;
+    }
+    let definition = row.definition;
+    if !((definition.0 < l.definitions.rows) | (definition.0 == TypeId::NONE.0)) {
+        return false;
+    }
+    if row.alias == TypeId::NONE.0 {
+        return true;
+    }
+    let pool = l.pool;
+    let a = pool_types::resolved::check_type(image, pool, row.alias as usize, l.names.rows);
+    a.ok
+}
+
+pub fn check_names(image: &[u8], l: Layout) -> bool
+    requires { ⌜ Cut (now image) l ⌝ }
+    ensures { λ r. ⌜ Says (times (l .names .rows) (name-row-of (now (image .entry)) l)) (section-words (now (image .entry)) (l .names .words)) 0 (verdict r (l .names .width * l .names .rows)) ⌝ }
+{
+    let n = l.names.rows;
+    let mut i = 0;
+    while i < n {
+        if !check_name_row(image, l, i) {
+            return false;
+        }
+        i += 1;
+    }
+    true
+}
