@@ -13,16 +13,17 @@ use Rattle.words.specs.Words.{word-at}
 use Rattle.reading.specs.Verdict.{section-words}
 use Rattle.reading.specs.Sections.{section-at}
 use Rattle.reading.specs.Gives as gives
+use Rattle.reading.specs.Gives.{Gives, Row}
 use Rattle.texts.specs.Rows.{row-text, rows-differ}
 use Rattle.texts.specs.Names.{differ-rule}
 use Rattle.layout.specs.declared.Table.{Table}
 use Rattle.layout.specs.declared.Layout.{Layout}
 use Rattle.layout.specs.Rows.{Cut, row-word}
-use Rattle.layout.specs.Readers.{name-row-of, definition-row-of}
+use Rattle.layout.specs.Readers.{name-row-of, string-row-of, definition-row-of}
 use Rattle.layout.specs.Open.{AliasStands, DefinitionStands, NameStands, pool-words}
 use Rattle.layout.proofs.Words.{row-inside}
 use Rattle.rows.proofs.Rows.{row-at}
-use Rattle.rows.proofs.Standing.{NameAt, name-gives, DefinitionAt, definition-gives, row-th, there}
+use Rattle.rows.proofs.Standing.{NameAt, name-gives, string-gives, DefinitionAt, definition-gives, row-th, there}
 
 module _ (image : List ℕ) (l : Layout) (cut : Cut image l) where
   -- a word of the section, by its row
@@ -36,42 +37,60 @@ module _ (image : List ℕ) (l : Layout) (cut : Cut image l) where
   abbrev NameOf : Name → ℕ → ℕ → Type 0
   NameOf n at m = NameAt image (l .texts) (section-words image (l .pool)) (l .names .rows) (l .strings .rows) (l .definitions .rows) (section-words image (l .names .words)) at n × (m ≡ at + 4)
 
-  -- the names that the rows give
-  pub names-stand : {ns : List Name} {q : Rest} → times (l .names .rows) (name-row-of image l) (rest-at (section-words image (l .names .words)) 0) ≡ some (ns, q)
-      → (length ns ≡ l .names .rows) × ((i : ℕ) (n : Name) → getElem? ns i ≡ some n → NameStands image l i n)
-  names-stand {ns} {q} e =
-      let g = gives.of (gives.times-gives NameOf (λ at. name-gives image (l .texts) (section-words image (l .pool)) (l .names .rows) (l .strings .rows) (l .definitions .rows) (section-words image (l .names .words)) at) (l .names .rows) 0) e .1 in (
-        g .1,
-        λ i n x.
-            let below : i < l .names .rows = omega (arith, there ns i n x, g .1) in
-            let at = row-th NameOf 4 (λ x a m h. h .1) ns 0 (q .at) (g .0) i n x .1 .0 in
-            let word : (k j : ℕ) → k < 4 → j ≡ 0 + 4 * i + k → getD (section-words image (l .names .words)) j 0 ≡ row-word image (l .names) i k = λ k j h p. by-index (l .names) 4 i k j (cut .names) below h p in
-            record {
-              text = rw (word 1 (0 + 4 * i + 1) (omega arith) refl, word 0 (0 + 4 * i) (omega arith) (omega arith)) at (at .text);
-              definition = at .definition ∙ word 2 (0 + 4 * i + 1 + 1) (omega arith) (omega arith);
-              alias = subst (λ (k : ℕ). AliasStands (l .names .rows) (pool-words image l) k (n .alias)) (word 3 (0 + 4 * i + 1 + 1 + 1) (omega arith) (omega arith)) (at .alias);
-            },
-      )
+  -- as many names as there are rows, each as its row says
+  pub record Names (ns : List Name) : Type 0 where
+    pub count : length ns ≡ l .names .rows
+    pub each : (i : ℕ) (n : Name) → getElem? ns i ≡ some n → NameStands image l i n
+
+  name-stands : (i : ℕ) (n : Name) → i < l .names .rows → {m : ℕ} → NameOf n (0 + 4 * i) m → NameStands image l i n
+  name-stands i n below of =
+      let word : (k j : ℕ) → k < 4 → j ≡ 0 + 4 * i + k → getD (section-words image (l .names .words)) j 0 ≡ row-word image (l .names) i k = λ k j h p. by-index (l .names) 4 i k j (cut .names) below h p in
+      record {
+        text = rw (word 1 (0 + 4 * i + 1) (omega arith) refl, word 0 (0 + 4 * i) (omega arith) (omega arith)) at (of .0 .text);
+        definition = of .0 .definition ∙ word 2 (0 + 4 * i + 1 + 1) (omega arith) (omega arith);
+        alias = subst (λ (k : ℕ). AliasStands (l .names .rows) (pool-words image l) k (n .alias)) (word 3 (0 + 4 * i + 1 + 1 + 1) (omega arith) (omega arith)) (of .0 .alias);
+      }
+
+  names-stand : (ns : List Name) (m : ℕ) → Row NameOf ns 0 m × (length ns ≡ l .names .rows) → Names ns
+  names-stand ns m g = record {
+    count = g .1;
+    each = λ i n x. name-stands i n (omega (arith, there ns i n x, g .1)) (row-th NameOf 4 (λ x a m h. h .1) ns 0 m (g .0) i n x .1);
+  }
+
+  pub names-give : Gives (times (l .names .rows) (name-row-of image l)) (section-words image (l .names .words)) 0 (λ ns m. Names ns)
+  names-give = gives.so-then (gives.times-gives NameOf (λ at. name-gives _ _ _ _ _ _ _ at) (l .names .rows) 0) names-stand
+
+  pub strings-give : Gives (times (l .strings .rows) (string-row-of image l)) (section-words image (l .strings .words)) 0 (λ us m. Unit {0})
+  strings-give = gives.so-then (gives.times-gives (λ u a m. Unit {0}) (λ at. string-gives _ _ _ _ _ _ _ at) (l .strings .rows) 0) (λ us m h. tt)
+
+  -- a definition's row says d
+  abbrev DefinitionIn : ℕ → TypeDef → Type 0
+  DefinitionIn i d = DefinitionStands (l .names .rows) (l .strings .rows) (pool-words image l) (definition-kind (row-word image (l .definitions) i 0)) (row-word image (l .definitions) i 1) d
+
+  -- as many definitions as there are rows, each as its row says
+  pub record Definitions (ds : List TypeDef) : Type 0 where
+    pub count : length ds ≡ l .definitions .rows
+    pub each : (i : ℕ) (d : TypeDef) → getElem? ds i ≡ some d → DefinitionIn i d
 
   abbrev DefinitionOf : TypeDef → ℕ → ℕ → Type 0
   DefinitionOf d at m = DefinitionAt image (l .texts) (section-words image (l .pool)) (l .names .rows) (l .strings .rows) (l .definitions .rows) (section-words image (l .definitions .words)) at d × (m ≡ at + 2)
 
-  -- the definitions that the rows give
-  pub definitions-stand : {ds : List TypeDef} {q : Rest} → times (l .definitions .rows) (definition-row-of image l) (rest-at (section-words image (l .definitions .words)) 0) ≡ some (ds, q)
-      → (length ds ≡ l .definitions .rows)
-      × ((i : ℕ) (d : TypeDef) → getElem? ds i ≡ some d
-      → DefinitionStands (l .names .rows) (l .strings .rows) (pool-words image l) (definition-kind (row-word image (l .definitions) i 0)) (row-word image (l .definitions) i 1) d)
-  definitions-stand {ds} {q} e =
-      let g = gives.of (gives.times-gives DefinitionOf (λ at. definition-gives image (l .texts) (section-words image (l .pool)) (l .names .rows) (l .strings .rows) (l .definitions .rows) (section-words image (l .definitions .words)) at) (l .definitions .rows) 0) e .1 in (
-        g .1,
-        λ i d x.
-            let below : i < l .definitions .rows = omega (arith, there ds i d x, g .1) in
-            let at = row-th DefinitionOf 2 (λ x a m h. h .1) ds 0 (q .at) (g .0) i d x .1 .0 in
-            subst (λ (k : ℕ). DefinitionStands (l .names .rows) (l .strings .rows) (pool-words image l) (definition-kind k) (row-word image (l .definitions) i 1) d)
-            (by-index (l .definitions) 2 i 0 (0 + 2 * i) (cut .definitions) below (omega arith) (omega arith))
-            (subst (λ (k : ℕ). DefinitionStands (l .names .rows) (l .strings .rows) (pool-words image l) (definition-kind (getD (section-words image (l .definitions .words)) (0 + 2 * i) 0)) k d)
-            (by-index (l .definitions) 2 i 1 (0 + 2 * i + 1) (cut .definitions) below (omega arith) refl) at),
-      )
+  definition-stands : (i : ℕ) (d : TypeDef) → i < l .definitions .rows → {m : ℕ} → DefinitionOf d (0 + 2 * i) m → DefinitionIn i d
+  definition-stands i d below of =
+      rw (
+        by-index (l .definitions) 2 i 0 (0 + 2 * i) (cut .definitions) below (omega arith) (omega arith),
+        by-index (l .definitions) 2 i 1 (0 + 2 * i + 1) (cut .definitions) below (omega arith) refl,
+      ) at
+      (of .0)
+
+  definitions-stand : (ds : List TypeDef) (m : ℕ) → Row DefinitionOf ds 0 m × (length ds ≡ l .definitions .rows) → Definitions ds
+  definitions-stand ds m g = record {
+    count = g .1;
+    each = λ i d x. definition-stands i d (omega (arith, there ds i d x, g .1)) (row-th DefinitionOf 2 (λ x a m h. h .1) ds 0 m (g .0) i d x .1);
+  }
+
+  pub definitions-give : Gives (times (l .definitions .rows) (definition-row-of image l)) (section-words image (l .definitions .words)) 0 (λ ds m. Definitions ds)
+  definitions-give = gives.so-then (gives.times-gives DefinitionOf (λ at. definition-gives _ _ _ _ _ _ _ at) (l .definitions .rows) 0) definitions-stand
 
   -- a word of a name's row, by its place in the image
   name-word : (i k at : ℕ) → i < l .names .rows → k < 4 → at ≡ l .texts + 16 * i + 4 * k → row-word image (l .names) i k ≡ word-at image at
@@ -88,8 +107,8 @@ module _ (image : List ℕ) (l : Layout) (cut : Cut image l) where
       → different-texts ns ≡ rows-differ image (l .texts) (l .names .rows)
   unfolding row-text
   texts-rule {ns} e =
-      let s = names-stand e in
+      let s = gives.of names-give e .1 in
       differ-rule image (l .texts) ns (λ i n x.
-      let below : i < l .names .rows = omega (arith, there ns i n x, s .0) in
-      rw (name-word i 1 (l .texts + 16 * i + 4) below (omega arith) (omega arith), name-word i 0 (l .texts + 16 * i) below (omega arith) (omega arith)) at (s .1 i n x .text))
-      ∙ ap (rows-differ image (l .texts)) (s .0)
+      let below : i < l .names .rows = omega (arith, there ns i n x, s .count) in
+      rw (name-word i 1 (l .texts + 16 * i + 4) below (omega arith) (omega arith), name-word i 0 (l .texts + 16 * i) below (omega arith) (omega arith)) at (s .each i n x .text))
+      ∙ ap (rows-differ image (l .texts)) (s .count)

@@ -12,13 +12,17 @@ use borrow.Author.Tests.{eq-eqb, ne-eqb, lt-ltb}
 use Rattle.rules.specs.Words.{NONE}
 use Rattle.rules.specs.Reader.{Rest, Reader, _>>=_, give, rule, word, times, from}
 use Rattle.rules.specs.ReadTypes.{resolved-type}
-use Rattle.rules.specs.Image.{alias-at}
+use Rattle.rules.specs.Image.{alias-at, definition-node, definition-row}
+use Rattle.rules.specs.declared.kinds.DefinitionKind.{DefinitionKind}
 use Rattle.reading.specs.declared.Checked.{Checked}
 use Rattle.reading.specs.Verdict.{section-words, Agrees, refusal, Says, Left}
 use Rattle.reading.specs.Says.{word-in, word-then, given, from-then, from-stop, nothing, rule-alone, rule-alone-stop}
 use Rattle.reading.specs.Loops.{turn, turn-stop, turn-done}
 use Rattle.layout.specs.declared.Table.{Table}
-use Rattle.layout.specs.Rows.{Fits, row-word}
+use Rattle.layout.specs.declared.Layout.{Layout}
+use Rattle.layout.specs.declared.DefinitionRow.{DefinitionRow}
+use Rattle.layout.specs.Rows.{Fits, Cut, row-word, IsDefinitionRow}
+use Rattle.layout.specs.Readers.{definition-row-of}
 use Rattle.layout.proofs.Words.{row-inside}
 use Rattle.rows.specs.Verdict.{verdict}
 
@@ -77,6 +81,14 @@ module _ (image : List ℕ) (texts : ℕ) (pool : List ℕ) (names strings defin
   pub alias-read : (start ≡ NONE → ⊥) → {c : Checked} → Says (resolved-type names) pool start c → Says (alias-at image texts pool names strings definitions start) ws at (verdict (c .ok) at)
   unfolding alias-at
   alias-read n s = simp (ne-eqb start NONE n) (elsewhere some s)
+
+-- a definition's row, by its kind
+pub definition-then : {image : List ℕ} {l : Layout} → Cut image l → {i : ℕ} → i < l .definitions .rows → {row : DefinitionRow} → IsDefinitionRow image l i row
+    → {k : DefinitionKind} → row .kind ≡ k → {r : Checked}
+    → Says (definition-node image (l .texts) (section-words image (l .pool)) (l .names .rows) (l .strings .rows) (l .definitions .rows) k (row .start)) (section-words image (l .definitions .words)) (l .definitions .width * (i + 1)) r
+    → Says (definition-row-of image l) (section-words image (l .definitions .words)) (l .definitions .width * i) r
+unfolding definition-row
+definition-then cut below is told h = two-then (cut .inside .definitions) below (cut .definitions) _ refl (is .start below) (rw (sym told ∙ is .kind below) at h)
 
 -- a loop over rows of w words
 abbrev pub Rows-left : {A : Type 0} → Reader A → List ℕ → ℕ → ℕ → ℕ → Type 0

@@ -11,10 +11,10 @@ use lib.Dec.{eqb}
 use borrow.Author.Tests.{eqb-true, eqb-false}
 use Rattle.rules.specs.Words.{NONE}
 use Rattle.rules.specs.Syntax.{Name, TypeDef}
-use Rattle.rules.specs.Reader.{Rest, rest-at, Reader, _>>=_, give, from}
+use Rattle.rules.specs.Reader.{Rest, rest-at, Reader, _>>=_, give, rule, from}
 use Rattle.rules.specs.Kinds.{definition-kind}
 use Rattle.rules.specs.ReadTypes.{resolved-type}
-use Rattle.rules.specs.Image.{alias-at, name-row, definition-node, definition-row}
+use Rattle.rules.specs.Image.{alias-at, name-row, string-row, definition-node, definition-row}
 use Rattle.rules.specs.declared.kinds.DefinitionKind.{DefinitionKind}
 use Rattle.laws.specs.Gives as laws
 use Rattle.laws.specs.Types.{type-exact}
@@ -42,6 +42,11 @@ module _ {A : Type 0} {r : Reader A} {P : A → List ℕ → Type 0} (g : laws.G
   -- of a body that stands elsewhere something is made; the own place stays
   pub made : {B : Type 0} (f : A → B) (Q : B → Type 0) → ((a : A) → Stored r ws start a → Q (f a)) → {own : List ℕ} {at : ℕ} → Gives (from ws start r >>= λ a. give (f a)) own at (λ b n. Q b × (n ≡ at))
   made f Q h {own} {at} = gives.then (gives.from-gives stored own at) (λ a m i. gives.given _ (h a (record { next = i .1; read = i .2 }), i .0))
+
+rule-gives : (b : Bool) {ws : List ℕ} {at : ℕ} → Gives (rule b) ws at (λ u m. Unit {0})
+unfolding rule
+rule-gives true = record { so = (refl, tt) }
+rule-gives false = record { so = tt }
 
 -- the i-th of things that stand one behind the other, each w words long
 pub row-th : {A : Type 0} (Q : A → ℕ → ℕ → Type 0) (w : ℕ) → ((x : A) (a m : ℕ) → Q x a m → m ≡ a + w) → (xs : List A) (at n : ℕ) → Row Q xs at n
@@ -84,6 +89,10 @@ module _ (image : List ℕ) (texts : ℕ) (pool : List ℕ) (names strings defin
       gives.word-then (λ start a. gives.word-then (λ size b. gives.word-then (λ definition c. gives.word-then (λ alias d.
       gives.rule-then _ _ (λ _. gives.rule-then _ _ (λ _. gives.then (alias-gives alias _) (λ t m s.
       gives.given _ (record { text = cc (a .is, b .is); definition = sym (c .is); alias = subst (λ (k : ℕ). AliasStands names pool k t) (sym (d .is)) (s .0) }, omega (arith, s .1)))))))))
+
+  pub string-gives : (at : ℕ) → Gives (string-row image texts pool names strings definitions) ws at (λ u m. Unit {0})
+  unfolding string-row
+  string-gives at = gives.word-then (λ start a. gives.word-then (λ size b. rule-gives _))
 
   node-gives : (k : DefinitionKind) (start at : ℕ) → Gives (definition-node image texts pool names strings definitions k start) ws at (λ d n. DefinitionStands names strings pool k start d × (n ≡ at))
   unfolding definition-node

@@ -2,17 +2,14 @@
 use layout::Layout;
 use rules::ids::NameId;
 use rules::ids::TypeId;
-ghost use Prim.Native.Nat.{_+_, _*_, _<_};
-ghost use Rattle.rules.specs.Reader.{times};
-ghost use Rattle.reading.specs.Verdict.{section-words, Says};
+ghost use Prim.Native.Nat.{_<_};
 ghost use Rattle.layout.specs.Rows.{Cut};
-ghost use Rattle.layout.specs.Readers.{name-row-of};
-ghost use Rattle.rows.specs.Verdict.{verdict};
+ghost use Rattle.rows.specs.Verdict.{NameSays, NamesSay};
 
 // A text of 1 to 255 bytes inside the texts, a definition that exists or NONE, an alias's type or NONE.
 fn check_name_row(image: &[u8], l: Layout, i: u32) -> bool
     requires { ⌜ Cut (now image) l × (i < l .names .rows) ⌝ }
-    ensures { λ r. ⌜ Says (name-row-of (now (image .entry)) l) (section-words (now (image .entry)) (l .names .words)) (l .names .width * i) (verdict r (l .names .width * (i + 1))) ⌝ }
+    ensures { λ r. ⌜ NameSays (now (image .entry)) l i r ⌝ }
 {
     let row = layout::name_row(image, l, NameId(i));
     let size = row.size as usize;
@@ -33,7 +30,7 @@ fn check_name_row(image: &[u8], l: Layout, i: u32) -> bool
 
 pub fn check_names(image: &[u8], l: Layout) -> bool
     requires { ⌜ Cut (now image) l ⌝ }
-    ensures { λ r. ⌜ Says (times (l .names .rows) (name-row-of (now (image .entry)) l)) (section-words (now (image .entry)) (l .names .words)) 0 (verdict r (l .names .width * l .names .rows)) ⌝ }
+    ensures { λ r. ⌜ NamesSay (now (image .entry)) l r ⌝ }
 {
     let n = l.names.rows;
     let mut i = 0;

@@ -1,16 +1,13 @@
 // String rows.
 use layout::Layout;
-ghost use Prim.Native.Nat.{_+_, _*_, _<_};
-ghost use Rattle.rules.specs.Reader.{times};
-ghost use Rattle.reading.specs.Verdict.{section-words, Says};
+ghost use Prim.Native.Nat.{_<_};
 ghost use Rattle.layout.specs.Rows.{Cut};
-ghost use Rattle.layout.specs.Readers.{string-row-of};
-ghost use Rattle.rows.specs.Verdict.{verdict};
+ghost use Rattle.rows.specs.Verdict.{StringSays, StringsSay};
 
 // A text inside the texts, of any length.
 fn check_string_row(image: &[u8], l: Layout, i: u32) -> bool
     requires { ⌜ Cut (now image) l × (i < l .strings .rows) ⌝ }
-    ensures { λ r. ⌜ Says (string-row-of (now (image .entry)) l) (section-words (now (image .entry)) (l .strings .words)) (l .strings .width * i) (verdict r (l .strings .width * (i + 1))) ⌝ }
+    ensures { λ r. ⌜ StringSays (now (image .entry)) l i r ⌝ }
 {
     let row = layout::string_row(image, l, i);
     row.start as usize + row.size as usize <= l.texts
@@ -18,7 +15,7 @@ fn check_string_row(image: &[u8], l: Layout, i: u32) -> bool
 
 pub fn check_strings(image: &[u8], l: Layout) -> bool
     requires { ⌜ Cut (now image) l ⌝ }
-    ensures { λ r. ⌜ Says (times (l .strings .rows) (string-row-of (now (image .entry)) l)) (section-words (now (image .entry)) (l .strings .words)) 0 (verdict r (l .strings .width * l .strings .rows)) ⌝ }
+    ensures { λ r. ⌜ StringsSay (now (image .entry)) l r ⌝ }
 {
     let n = l.strings.rows;
     let mut i = 0;
