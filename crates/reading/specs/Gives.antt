@@ -1,7 +1,7 @@
 -- What a reader gives, and where it stands: one law for each step of a reader.
 use Prim.Native.Nat.{ℕ, zero, suc, _+_, _-_, _<_, _≤_}
 use mathlib.Core.Path.{_≡_, refl, sym, ap, subst, _∙_}
-use mathlib.Core.Bool.{Bool, true, false}
+use mathlib.Core.Bool.{Bool, true, false, cond}
 use mathlib.Core.List.{List, [], _∷_}
 use mathlib.Core.Option.{Option, none, some}
 use native.Mathlib.Omega.{arith}
@@ -75,6 +75,14 @@ so-then-y ws Q P (some p) y h = (y .0, h (p .0) (p .1 .at) (y .1))
 pub so-then : {A : Type 0} {r : Reader A} {ws : List ℕ} {at : ℕ} {Q P : A → ℕ → Type 0} → Gives r ws at Q → ((a : A) (m : ℕ) → Q a m → P a m) → Gives r ws at P
 so-then {A} {r} {ws} {at} {Q} {P} q h = record { so = so-then-y ws Q P (r (rest-at ws at)) (q .so) h }
 
+both-y : {A : Type 0} (ws : List ℕ) (P Q : A → ℕ → Type 0) (o : Option (A × Rest)) → Yields ws P o → Yields ws Q o → Yields ws (λ a n. P a n × Q a n) o
+both-y ws P Q none y z = tt
+both-y ws P Q (some p) y z = (y .0, (y .1, z .1))
+
+-- two things of the same reading
+pub both : {A : Type 0} {r : Reader A} {ws : List ℕ} {at : ℕ} {P Q : A → ℕ → Type 0} → Gives r ws at P → Gives r ws at Q → Gives r ws at (λ a n. P a n × Q a n)
+both {A} {r} {ws} {at} {P} {Q} g h = record { so = both-y ws P Q (r (rest-at ws at)) (g .so) (h .so) }
+
 -- a reading in two steps
 pub assoc : {A B C : Type 0} (r : Reader A) (f : A → Reader B) (g : B → Reader C) {ws : List ℕ} {at : ℕ} {P : C → ℕ → Type 0}
     → Gives (r >>= λ a. f a >>= g) ws at P → Gives (r >>= f >>= g) ws at P
@@ -128,6 +136,11 @@ sized-gives h = place-then _ (then h (λ t n p. place-then _ (rule-then _ _ (λ 
 pub below-gives : (limit : ℕ) (ws : List ℕ) (at : ℕ) → Gives (below limit) ws at (λ w n. Below-at ws limit w at n)
 unfolding below
 below-gives limit ws at = word-then (λ w i. rule-then _ _ (λ l. given _ (i, ltb-true w limit l, refl)))
+
+-- either of two readings
+pub either : {A : Type 0} {ws : List ℕ} {at : ℕ} {P : A → ℕ → Type 0} (b : Bool) {r s : Reader A} → (b ≡ true → Gives r ws at P) → (b ≡ false → Gives s ws at P) → Gives (cond b r s) ws at P
+either true g h = g refl
+either false g h = h refl
 
 -- readings one behind the other, counted readings, a reading that may be absent
 module _ {A : Type 0} (Q : A → ℕ → ℕ → Type 0) {r : Reader A} {ws : List ℕ} (q : (at : ℕ) → Gives r ws at (λ a n. Q a at n)) where
