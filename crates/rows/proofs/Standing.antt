@@ -1,46 +1,37 @@
 -- What the readers of rows give, and where it stands.
 use Prim.Native.Nat.{ℕ, zero, suc, _+_, _*_, _<_}
 use mathlib.Core.Path.{_≡_, refl, sym, ap, subst, _∙_}
-use mathlib.Core.Bool.{Bool, true, false, cond}
+use mathlib.Core.Bool.{Bool, true, false}
 use mathlib.Core.List.{List, [], _∷_}
 use mathlib.Core.Option.{Option, none, some}
 use native.Mathlib.Omega.{arith}
 use lib.ListN.{length, take, drop, getD, getElem?}
-use lib.Seq.{drop-drop, drop-at}
 use lib.Dec.{eqb}
 use borrow.Author.Tests.{eqb-true, eqb-false}
 use Rattle.rules.specs.Words.{NONE}
 use Rattle.rules.specs.Syntax.{Name, TypeDef}
 use Rattle.rules.specs.Reader.{Rest, rest-at, Reader, _>>=_, give, rule, from}
 use Rattle.rules.specs.Kinds.{definition-kind}
-use Rattle.rules.specs.ReadTypes.{resolved-type}
 use Rattle.rules.specs.Image.{alias-at, name-row, string-row, definition-node, definition-row}
 use Rattle.rules.specs.declared.kinds.DefinitionKind.{DefinitionKind}
-use Rattle.laws.specs.Gives as laws
 use Rattle.laws.specs.Types.{type-exact}
 use Rattle.laws.specs.Definitions.{message-exact, generic-alias-exact, trait-exact, implementation-exact}
 use Rattle.reading.specs.Gives as gives
 use Rattle.reading.specs.Gives.{Yields, Gives, Row}
+use Rattle.reading.specs.Stands.{exact-gives}
 use Rattle.layout.specs.Open.{Stored, AliasStands, DefinitionStands}
 
--- what a reader took stood from its place on
-module _ {A : Type 0} {r : Reader A} {P : A → List ℕ → Type 0} (g : laws.Gives r P) (ws : List ℕ) (start : ℕ) where
-  behind : (a : A) (q : Rest) → r (rest-at ws start) ≡ some (a, q) → q ≡ rest-at ws (q .at)
-  behind a q e =
-      let f = g .found (rest-at ws start) a q e in
-      let l : q .left ≡ drop (q .at) ws =
-      sym (drop-at (f .words) (q .left) (length (f .words)) refl) ∙ ap (drop (length (f .words))) (sym (f .left)) ∙ drop-drop (length (f .words)) start ws ∙ ap (λ (n : ℕ). drop n ws) (sym (f .at)) in
-      ap (λ (l : List ℕ). record { at = q .at; left = l }) l
+-- what is given of the words from a place on is stored there
+module _ {A : Type 0} {r : Reader A} (ws : List ℕ) (start : ℕ) {P : A → ℕ → Type 0} (g : Gives r ws start P) where
+  stored-y : (o : Option (A × Rest)) → r (rest-at ws start) ≡ o → Yields ws P o → Yields ws (λ a n. r (rest-at ws start) ≡ some (a, rest-at ws n)) o
+  stored-y none e y = tt
+  stored-y (some p) e y = (y .0, e ∙ ap (λ (x : Rest). some (p .0, x)) (y .0))
 
-  stored-y : (o : Option (A × Rest)) → r (rest-at ws start) ≡ o → Yields ws (λ a n. r (rest-at ws start) ≡ some (a, rest-at ws n)) o
-  stored-y none e = tt
-  stored-y (some p) e = let q = behind (p .0) (p .1) e in (q, e ∙ ap (λ (x : Rest). some (p .0, x)) q)
-
-  pub stored : Gives r ws start (λ a n. r (rest-at ws start) ≡ some (a, rest-at ws n))
-  stored = record { so = stored-y (r (rest-at ws start)) refl }
+  stored : Gives r ws start (λ a n. r (rest-at ws start) ≡ some (a, rest-at ws n))
+  stored = record { so = stored-y (r (rest-at ws start)) refl (g .so) }
 
   -- of a body that stands elsewhere something is made; the own place stays
-  pub made : {B : Type 0} (f : A → B) (Q : B → Type 0) → ((a : A) → Stored r ws start a → Q (f a)) → {own : List ℕ} {at : ℕ} → Gives (from ws start r >>= λ a. give (f a)) own at (λ b n. Q b × (n ≡ at))
+  made : {B : Type 0} (f : A → B) (Q : B → Type 0) → ((a : A) → Stored r ws start a → Q (f a)) → {own : List ℕ} {at : ℕ} → Gives (from ws start r >>= λ a. give (f a)) own at (λ b n. Q b × (n ≡ at))
   made f Q h {own} {at} = gives.then (gives.from-gives stored own at) (λ a m i. gives.given _ (h a (record { next = i .1; read = i .2 }), i .0))
 
 rule-gives : (b : Bool) {ws : List ℕ} {at : ℕ} → Gives (rule b) ws at (λ u m. Unit {0})
@@ -70,12 +61,9 @@ there (y ∷ xs) (suc i) x e = let h = there xs i x e in omega arith
 module _ (image : List ℕ) (texts : ℕ) (pool : List ℕ) (names strings definitions : ℕ) (ws : List ℕ) where
   alias-gives : (start at : ℕ) → Gives (alias-at image texts pool names strings definitions start) ws at (λ o n. AliasStands names pool start o × (n ≡ at))
   unfolding alias-at
-  alias-gives start at = go (eqb start NONE) refl
-    where
-      go : (b : Bool) → eqb start NONE ≡ b
-          → Gives (cond b (give none) (from pool start (resolved-type names) >>= λ t. give (some t))) ws at (λ o n. AliasStands names pool start o × (n ≡ at))
-      go true e = gives.given _ (eqb-true start NONE e, refl)
-      go false e = made (type-exact names .gives) pool start some (λ o. AliasStands names pool start o) (λ t s. (eqb-false start NONE e, s))
+  alias-gives start at =
+      gives.either (eqb start NONE) (λ e. gives.given _ (eqb-true start NONE e, refl))
+      (λ e. made pool start (exact-gives (type-exact names) pool start) some (λ o. AliasStands names pool start o) (λ t s. (eqb-false start NONE e, s)))
 
   -- the words from `at` on say n
   pub record NameAt (at : ℕ) (n : Name) : Type 0 where
@@ -97,12 +85,12 @@ module _ (image : List ℕ) (texts : ℕ) (pool : List ℕ) (names strings defin
   node-gives : (k : DefinitionKind) (start at : ℕ) → Gives (definition-node image texts pool names strings definitions k start) ws at (λ d n. DefinitionStands names strings pool k start d × (n ≡ at))
   unfolding definition-node
   node-gives DefinitionKind.Other start at = gives.given _ (refl, refl)
-  node-gives DefinitionKind.Message start at = made (message-exact names .gives) pool start TypeDef.message (DefinitionStands names strings pool DefinitionKind.Message start) (λ m s. (refl, s))
+  node-gives DefinitionKind.Message start at = made pool start (exact-gives (message-exact names) pool start) TypeDef.message (DefinitionStands names strings pool DefinitionKind.Message start) (λ m s. (refl, s))
   node-gives DefinitionKind.GenericAlias start at =
-      made (generic-alias-exact names .gives) pool start TypeDef.generic-alias (DefinitionStands names strings pool DefinitionKind.GenericAlias start) (λ m s. (refl, s))
-  node-gives DefinitionKind.Trait start at = made (trait-exact names .gives) pool start TypeDef.trait (DefinitionStands names strings pool DefinitionKind.Trait start) (λ m s. (refl, s))
+      made pool start (exact-gives (generic-alias-exact names) pool start) TypeDef.generic-alias (DefinitionStands names strings pool DefinitionKind.GenericAlias start) (λ m s. (refl, s))
+  node-gives DefinitionKind.Trait start at = made pool start (exact-gives (trait-exact names) pool start) TypeDef.trait (DefinitionStands names strings pool DefinitionKind.Trait start) (λ m s. (refl, s))
   node-gives DefinitionKind.Implementation start at =
-      made (implementation-exact names strings .gives) pool start TypeDef.implementation (DefinitionStands names strings pool DefinitionKind.Implementation start) (λ m s. (refl, s))
+      made pool start (exact-gives (implementation-exact names strings) pool start) TypeDef.implementation (DefinitionStands names strings pool DefinitionKind.Implementation start) (λ m s. (refl, s))
   node-gives DefinitionKind.Unknown start at = gives.failed
 
   -- the words from `at` on say d
