@@ -1,6 +1,6 @@
 -- The two calls on a good schema: typed output of bounded size and visits, and short details.
 use Prim.Native.Nat.{ℕ, _+_, _*_, _≤_}
-use mathlib.Core.Path.{ap, _∙_}
+use mathlib.Core.Path.{ap, _∙_, _≡_, refl}
 use mathlib.Core.Bool.{not}
 use mathlib.Core.List.{List, [], _∷_, _++_, map}
 use mathlib.Core.Option.{Option}
@@ -10,21 +10,22 @@ use Rattle.rules.specs.Words.{member, all-different}
 use Rattle.rules.specs.Syntax.{run, ImplFnDef, ImplDef, TypeDef, CompiledSchema}
 use Rattle.rules.specs.Options.{then}
 use Rattle.rules.specs.Substitute.{get, number}
-use Rattle.rules.specs.Signatures.{is-trait, find-trait}
+use Rattle.rules.specs.Signatures.{is-trait, find-trait, PortableSignature}
 use Rattle.rules.specs.Bodies.{PortableFunction}
-use Rattle.rules.specs.Project.{is-message, is-implementation, no-repeat, no-stranger, find-implementation, target-message, project-impl}
-use Rattle.rules.specs.Output.{each, listed, functions-words}
-use Rattle.laws.specs.Good.{AllOption}
+use Rattle.rules.specs.Project.{is-message, is-implementation, no-repeat, no-stranger, find-implementation, target-message, project-impl, expected-signatures}
+use Rattle.rules.specs.Output.{each, listed, functions-words, signature-words, signatures-words}
+use Rattle.rules.specs.Answer.{project-call, signatures-call}
+use Rattle.laws.specs.Good.{All, AllOption}
 use Rattle.laws.specs.Each.{at-all, then-all, then-any}
 use Rattle.laws.specs.DefinitionRuns.{Few, impl-function-words, implementation-words, GoodMessage, GoodTrait, GoodImpl}
 use Rattle.laws.specs.GoodSchema.{most-words, GoodDefinition, GoodSchema}
-use Rattle.laws.specs.Typed.{TypedFunction}
+use Rattle.laws.specs.Typed.{TypedFunction, TypedSignature}
 use Rattle.laws_answers.specs.Ends as ends
 use Rattle.laws_answers.specs.Ends.{Ends}
 use Rattle.laws_answers.specs.Expected.{function-visits, expected-ends}
 use Rattle.laws_answers.specs.Values.{growth}
 use Rattle.laws_answers.specs.Sizes.{named-size-most}
-use Rattle.laws_answers.specs.Functions.{signature-most, list-ends}
+use Rattle.laws_answers.specs.Functions.{signature-most, list-ends, each-length, signature-short}
 
 -- 64 functions of 32 parameters and a return
 abbrev pub most-visits : ℕ
@@ -118,3 +119,48 @@ module _ (names strings : ℕ) where
           good = record { few = omega (arith, p .counted, x .counted, t .functions .few); each = p .good };
           small = omega (arith, p .small, x .counted, t .functions .few, named-size-most (map (λ s. s .name) (e .1)) (impl .functions), functions-inside impl, i .1);
         })))))))
+
+    -- accepted signatures and their visits
+    pub record Expectation (p : ℕ × List PortableSignature) : Type 0 where
+      pub visits : p .0 ≤ most-visits
+      pub good : Few 64 (TypedSignature names) (p .1)
+      pub small : length (signatures-words (p .1)) ≤ most-signatures
+
+    signatures-short : (ss : List PortableSignature) → All (TypedSignature names) ss → All (λ (t : PortableSignature). length (signature-words (t .name) (t .params) (t .return-type)) ≤ signature-most) ss
+    signatures-short [] h = tt
+    signatures-short (t ∷ ss) h = (signature-short names (t .name) (t .params) (t .return-type) (h .0 .params) (h .0 .return-type), signatures-short ss (h .1))
+
+    pub expectation-ends : (impl : ImplDef) → Impl impl → Ends (expected-signatures schema impl) Expectation
+    unfolding expected-signatures signatures-words listed
+    expectation-ends impl i =
+        ends.then-ends (trait-ends impl) (λ trait t. ends.so (expected-ends names strings schema s trait impl t (i .0)) (λ p x. record {
+          visits = omega (arith, x .visits, t .functions .few);
+          good = record { few = omega (arith, x .counted, t .functions .few); each = x .each };
+          small = omega (arith, x .counted, t .functions .few, each-length (λ (t : PortableSignature). signature-words (t .name) (t .params) (t .return-type)) signature-most (p .1) (signatures-short (p .1) (x .each)));
+        }))
+
+    -- the words of accepted typed functions
+    pub record Written (p : ℕ × List ℕ) : Type 0 where
+      pub functions : List PortableFunction
+      pub are : p .1 ≡ functions-words functions
+      pub good : Few 64 (TypedFunction names) functions
+      pub visits : p .0 ≤ most-visits
+      pub small : length (p .1) ≤ most-output
+
+    pub project-call-ends : (row : ℕ) → Ends (project-call row schema) Written
+    unfolding project-call
+    project-call-ends row = ends.then-ends (implementation-ends row) (λ impl i. ends.then-ends (project-ends impl i) (λ p h.
+        ends.ok-ends _ _ (record { functions = p .1; are = refl; good = h .good; visits = h .visits; small = h .small })))
+
+    -- the words of accepted signatures
+    pub record Listed (p : ℕ × List ℕ) : Type 0 where
+      pub signatures : List PortableSignature
+      pub are : p .1 ≡ signatures-words signatures
+      pub good : Few 64 (TypedSignature names) signatures
+      pub visits : p .0 ≤ most-visits
+      pub small : length (p .1) ≤ most-signatures
+
+    pub signatures-call-ends : (row : ℕ) → Ends (signatures-call row schema) Listed
+    unfolding signatures-call
+    signatures-call-ends row = ends.then-ends (implementation-ends row) (λ impl i. ends.then-ends (expectation-ends impl i) (λ p h.
+        ends.ok-ends _ _ (record { signatures = p .1; are = refl; good = h .good; visits = h .visits; small = h .small })))

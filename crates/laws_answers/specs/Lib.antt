@@ -6,3 +6,4 @@ pub mod Checked
 pub mod Sizes
 pub mod Functions
 pub mod Calls
+pub mod Answers
