@@ -29,6 +29,7 @@ module _ (names strings : ℕ) where
 
   mutual
     unfolding expr-words expr-node exprs-words repeat expr-kind
+
     pub tree-reads : (e : Expr) (f : ℕ) → GoodValue names strings e → nesting e ≤ f → Reads (expr-tree names strings f) (expr-words e) e
     tree-reads (Expr.literal c low high) zero g d = absurd (omega arith)
     tree-reads (Expr.literal c low high) (suc f) g d = at-kind f ExprKind.Literal (literal-kind c g) (wide-then _ (give-reads _))

@@ -21,7 +21,7 @@ use Rattle.laws.specs.DefinitionRuns.{Few, impl-function-words, implementation-
 use Rattle.laws.specs.GoodSchema.{most-words, GoodDefinition, GoodSchema}
 use Rattle.laws.specs.Typed.{TypedFunction, TypedSignature}
 use Rattle.laws_answers.specs.Ends as ends
-use Rattle.laws_answers.specs.Ends.{Ends}
+use Rattle.laws_answers.specs.Ends.{Ends, Short}
 use Rattle.laws_answers.specs.Expected.{function-visits, expected-ends}
 use Rattle.laws_answers.specs.Values.{growth}
 use Rattle.laws_answers.specs.Sizes.{named-size-most}
@@ -38,12 +38,12 @@ most-output = 1 + 64 * 2148 + growth * most-words
 abbrev pub most-signatures : ℕ
 most-signatures = 1 + 64 * signature-most
 
-no-repeat-ends : (seen : List ℕ) (fs : List ImplFnDef) → Ends (no-repeat seen fs) (λ _. Unit {0})
+no-repeat-ends : (seen : List ℕ) (fs : List ImplFnDef) → Ends Short (no-repeat seen fs) (λ _. Unit {0})
 unfolding no-repeat
 no-repeat-ends seen [] = ends.ok-ends tt _ tt
 no-repeat-ends seen (f ∷ fs) = ends.ensure-ends (not (member (f .name) seen)) _ _ (omega arith) (λ _. no-repeat-ends (f .name ∷ seen) fs)
 
-no-stranger-ends : (known : List ℕ) (fs : List ImplFnDef) → Ends (no-stranger known fs) (λ _. Unit {0})
+no-stranger-ends : (known : List ℕ) (fs : List ImplFnDef) → Ends Short (no-stranger known fs) (λ _. Unit {0})
 unfolding no-stranger
 no-stranger-ends known [] = ends.ok-ends tt _ tt
 no-stranger-ends known (f ∷ fs) = ends.ensure-ends (member (f .name) known) _ _ (omega arith) (λ _. no-stranger-ends known fs)
@@ -86,15 +86,15 @@ module _ (names strings : ℕ) where
     row-good : {A : Type 0} (P : A → Type 0) (is : TypeDef → Option A) → ((d : TypeDef) → GoodDefinition names strings d → AllOption P (is d)) → (n : ℕ) → AllOption P (then (get schema n) is)
     row-good P is good n = then-all (GoodDefinition names strings) P (getElem? (schema .definitions) n) is (at-all (GoodDefinition names strings) (schema .definitions) n (s .definitions-good)) good
 
-    implementation-ends : (row : ℕ) → Ends (find-implementation schema row) Impl
+    implementation-ends : (row : ℕ) → Ends Short (find-implementation schema row) Impl
     unfolding find-implementation
     implementation-ends row = ends.refuse-ends Impl _ _ (omega arith) (row-good Impl is-implementation implementation-good row)
 
-    trait-ends : (impl : ImplDef) → Ends (find-trait schema impl) (GoodTrait names)
+    trait-ends : (impl : ImplDef) → Ends Short (find-trait schema impl) (GoodTrait names)
     unfolding find-trait
     trait-ends impl = ends.refuse-ends (GoodTrait names) _ _ (omega arith) (row-good (GoodTrait names) is-trait trait-good (impl .trait-id))
 
-    message-ends : (impl : ImplDef) → Ends (target-message schema impl) (GoodMessage names)
+    message-ends : (impl : ImplDef) → Ends Short (target-message schema impl) (GoodMessage names)
     unfolding target-message
     message-ends impl = ends.refuse-ends (GoodMessage names) _ _ (omega arith)
         (then-any (GoodMessage names) (number (impl .target-type)) _ (λ n. row-good (GoodMessage names) is-message message-good n))
@@ -105,7 +105,7 @@ module _ (names strings : ℕ) where
       pub good : Few 64 (TypedFunction names) (p .1)
       pub small : length (functions-words (p .1)) ≤ most-output
 
-    pub project-ends : (impl : ImplDef) → Impl impl → Ends (project-impl schema impl) Projection
+    pub project-ends : (impl : ImplDef) → Impl impl → Ends Short (project-impl schema impl) Projection
     unfolding project-impl functions-words listed
     project-ends impl i =
         ends.then-ends (trait-ends impl) (λ trait t.
@@ -130,7 +130,7 @@ module _ (names strings : ℕ) where
     signatures-short [] h = tt
     signatures-short (t ∷ ss) h = (signature-short names (t .name) (t .params) (t .return-type) (h .0 .params) (h .0 .return-type), signatures-short ss (h .1))
 
-    pub expectation-ends : (impl : ImplDef) → Impl impl → Ends (expected-signatures schema impl) Expectation
+    pub expectation-ends : (impl : ImplDef) → Impl impl → Ends Short (expected-signatures schema impl) Expectation
     unfolding expected-signatures signatures-words listed
     expectation-ends impl i =
         ends.then-ends (trait-ends impl) (λ trait t. ends.so (expected-ends names strings schema s trait impl t (i .0)) (λ p x. record {
@@ -147,7 +147,7 @@ module _ (names strings : ℕ) where
       pub visits : p .0 ≤ most-visits
       pub small : length (p .1) ≤ most-output
 
-    pub project-call-ends : (row : ℕ) → Ends (project-call row schema) Written
+    pub project-call-ends : (row : ℕ) → Ends Short (project-call row schema) Written
     unfolding project-call
     project-call-ends row = ends.then-ends (implementation-ends row) (λ impl i. ends.then-ends (project-ends impl i) (λ p h.
         ends.ok-ends _ _ (record { functions = p .1; are = refl; good = h .good; visits = h .visits; small = h .small })))
@@ -160,7 +160,7 @@ module _ (names strings : ℕ) where
       pub visits : p .0 ≤ most-visits
       pub small : length (p .1) ≤ most-signatures
 
-    pub signatures-call-ends : (row : ℕ) → Ends (signatures-call row schema) Listed
+    pub signatures-call-ends : (row : ℕ) → Ends Short (signatures-call row schema) Listed
     unfolding signatures-call
     signatures-call-ends row = ends.then-ends (implementation-ends row) (λ impl i. ends.then-ends (expectation-ends impl i) (λ p h.
         ends.ok-ends _ _ (record { signatures = p .1; are = refl; good = h .good; visits = h .visits; small = h .small })))

@@ -16,7 +16,7 @@ use Rattle.laws.specs.Types.{Stored}
 use Rattle.laws.specs.Runs.{expr-words, stored-statement-words, GoodStatement}
 use Rattle.laws.specs.Typed.{TypedNested, TypedStatement, TypedParam}
 use Rattle.laws_answers.specs.Ends as ends
-use Rattle.laws_answers.specs.Ends.{Ends}
+use Rattle.laws_answers.specs.Ends.{Ends, Short}
 use Rattle.laws_answers.specs.Values.{growth, GoodContext, find-last-stored, type-of-stored, infer-ends}
 
 -- one more at a list's end
@@ -40,7 +40,7 @@ module _ (names strings : ℕ) where
     small : length (statement-words (PortableStatement.return o)) ≤ growth * length (stored-statement-words (Statement.return v))
 
   return-ends : (c : FunctionContext) → GoodContext names strings c → (returns : Option ResolvedType) → AllOption (Stored names) returns → (v : Option Expr)
-      → GoodStatement names strings (Statement.return v) → Ends (project-return c returns v) (Returned v)
+      → GoodStatement names strings (Statement.return v) → Ends Short (project-return c returns v) (Returned v)
   unfolding project-return statement-words stored-statement-words
   return-ends c g none h none s = ends.ok-ends none _ (record { good = tt; small = omega arith })
   return-ends c g none h (some e) s = ends.err-ends _ (omega arith)
@@ -48,7 +48,7 @@ module _ (names strings : ℕ) where
   return-ends c g (some t) h (some e) s = ends.then-ends (infer-ends names strings c g e (some t) 4 (s .good) h) (λ value i.
       ends.ok-ends (some value) _ (record { good = record { good = i .good; deep = omega (arith, i .deep, s .deep) }; small = omega (arith, i .small) }))
 
-  field-ends : (f : ℕ) (p : Place) → Ends (assigned-field f p) (λ _. Unit {0})
+  field-ends : (f : ℕ) (p : Place) → Ends Short (assigned-field f p) (λ _. Unit {0})
   unfolding assigned-field
   field-ends f (of-local x) = ends.err-ends _ (omega arith)
   field-ends f of-self = ends.err-ends _ (omega arith)
@@ -90,7 +90,7 @@ module _ (names strings : ℕ) where
   }
 
   pub statements-end : (returns : Option ResolvedType) → AllOption (Stored names) returns → (c : FunctionContext) → GoodContext names strings c
-      → (ss : List Statement) → All (GoodStatement names strings) ss → Ends (project-statements returns c ss) (Projected ss)
+      → (ss : List Statement) → All (GoodStatement names strings) ss → Ends Short (project-statements returns c ss) (Projected ss)
   unfolding project-statements
   statements-end returns h c g [] s = ends.ensure-ends (not (is-some returns)) _ _ (omega arith) (λ e. ends.ok-ends [] _ nothing)
   statements-end returns h c g (Statement.expr e ∷ ss) s = ends.err-ends _ (omega arith)

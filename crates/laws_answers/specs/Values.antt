@@ -20,7 +20,7 @@ use Rattle.laws.specs.Types.{Stored}
 use Rattle.laws.specs.Runs.{expr-words, nesting, GoodValue}
 use Rattle.laws.specs.Typed.{typed-nesting, kind-nesting, TypedValue, TypedKind, TypedParam}
 use Rattle.laws_answers.specs.Ends as ends
-use Rattle.laws_answers.specs.Ends.{Ends}
+use Rattle.laws_answers.specs.Ends.{Ends, Short}
 
 -- a value's type and one word more, for each word
 abbrev pub growth : ℕ
@@ -104,30 +104,30 @@ module _ (names strings : ℕ) where
         go true = h
         go false = tt
 
-    mismatch-ends : {A : Type 0} {P : A → Type 0} (ctx : ℕ) (t u : ResolvedType) → Stored names t → Stored names u → Ends (type-mismatch c {A = A} ctx t u) P
+    mismatch-ends : {A : Type 0} {P : A → Type 0} (ctx : ℕ) (t u : ResolvedType) → Stored names t → Stored names u → Ends Short (type-mismatch c {A = A} ctx t u) P
     unfolding type-mismatch
     mismatch-ends ctx t u s v = ends.err-ends _ (omega (arith, length-append (run t) (run u), s .short, v .short))
 
-    same-ends : (ctx : ℕ) (t u : ResolvedType) → Stored names t → Stored names u → Ends (ensure-same-type c ctx t u) (λ _. Unit {0})
+    same-ends : (ctx : ℕ) (t u : ResolvedType) → Stored names t → Stored names u → Ends Short (ensure-same-type c ctx t u) (λ _. Unit {0})
     unfolding ensure-same-type
     same-ends ctx t u s v = go (same-type t u)
       where
-        go : (b : Bool) → Ends {A = Unit {0}} (elim b as (λ _. Result (Unit {0})) [ true ↦ ok tt | false ↦ type-mismatch c ctx t u ]) (λ _. Unit {0})
+        go : (b : Bool) → Ends {A = Unit {0}} Short (elim b as (λ _. Result (Unit {0})) [ true ↦ ok tt | false ↦ type-mismatch c ctx t u ]) (λ _. Unit {0})
         go true = ends.ok-ends tt _ tt
         go false = mismatch-ends ctx t u s v
 
     ended-ends : (P : PortableExpr → Type 0) (expected : Option ResolvedType) (ctx : ℕ) (t : ResolvedType) (k : PortableExprKind)
-        → AllOption (Stored names) expected → Stored names t → P (typed t k) → Ends (ended c expected ctx t k) P
+        → AllOption (Stored names) expected → Stored names t → P (typed t k) → Ends Short (ended c expected ctx t k) P
     unfolding ended
     ended-ends P none ctx t k h s p = ends.ok-ends _ P p
     ended-ends P (some e) ctx t k h s p = ends.then-ends (same-ends ctx e t h s) (λ _ _. ends.ok-ends _ P p)
 
-    literal-ends : (code n : ℕ) (expected : Option ResolvedType) → AllOption (Stored names) expected → Ends (infer-literal c code n expected) (Stored names)
+    literal-ends : (code n : ℕ) (expected : Option ResolvedType) → AllOption (Stored names) expected → Ends Short (infer-literal c code n expected) (Stored names)
     unfolding infer-literal
     literal-ends code n none h = ends.ok-ends _ _ (literal-stored code)
     literal-ends code n (some t) h = go (literal-fits code n t)
       where
-        go : (b : Bool) → Ends {A = ResolvedType} (elim b as (λ _. Result ResolvedType) [ true ↦ ok t | false ↦ type-mismatch c code t (literal-own code) ]) (Stored names)
+        go : (b : Bool) → Ends {A = ResolvedType} Short (elim b as (λ _. Result ResolvedType) [ true ↦ ok t | false ↦ type-mismatch c code t (literal-own code) ]) (Stored names)
         go true = ends.ok-ends t _ h
         go false = mismatch-ends code t (literal-own code) h (literal-stored code)
 
@@ -137,7 +137,7 @@ module _ (names strings : ℕ) where
     unfolding value-words
     leaf e t k good flat deep small any s = record { good = (s, good); deep = omega arith; small = omega (arith, length-append (run t) (kind-words k), s .short) }
 
-    pub infer-ends : (e : Expr) (expected : Option ResolvedType) (ctx : ℕ) → GoodValue names strings e → AllOption (Stored names) expected → Ends (infer-expr c e expected ctx) (Inferred e)
+    pub infer-ends : (e : Expr) (expected : Option ResolvedType) (ctx : ℕ) → GoodValue names strings e → AllOption (Stored names) expected → Ends Short (infer-expr c e expected ctx) (Inferred e)
     unfolding infer-expr value-words kind-words expr-words
     infer-ends (Expr.literal code low high) expected ctx v h = ends.then-ends (literal-ends code _ expected h) (λ t s.
         ended-ends (Inferred _) expected ctx t _ h s (leaf _ t _ v refl (omega arith) (omega arith) (omega arith) s))
