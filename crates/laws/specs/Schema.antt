@@ -13,7 +13,8 @@ use Rattle.rules.specs.Syntax.{CompiledSchema}
 use Rattle.rules.specs.Reader.{Rest, rest-at, Reader, from, repeat, times}
 use Rattle.rules.specs.Kinds.{definition-kind}
 use Rattle.rules.specs.declared.kinds.DefinitionKind.{DefinitionKind}
-use Rattle.rules.specs.Image.{part, Trailer, good-trailer, whole-rows, name-width, string-width, definition-width, trailer, alias-at, name-row, string-row, definition-node, definition-row, rows, sections, schema, readable}
+use Rattle.rules.specs.Image.{part, Trailer, good-trailer, whole-rows, name-width, string-width, definition-width, trailer, alias-at, name-row, string-row}
+use Rattle.rules.specs.Image.{definition-node, definition-row, rows, sections, schema, readable}
 use Rattle.laws.specs.Clash.{clash}
 use Rattle.laws.specs.Good.{All, AllOption}
 use Rattle.laws.specs.Gives as gives
@@ -30,7 +31,8 @@ times-all g zero = gives.give-gives [] _ (tt, refl)
 times-all g (suc n) = gives.then-gives g (λ x vs h. gives.last-gives _ (times-all g n) (λ xs ws i. ((h, i .0), ap suc (i .1))))
 
 -- what stands in the pool, and is no longer than it
-from-exact : {A : Type 0} {r : Reader A} {run : A → List ℕ} {Good : A → Type 0} (pool : List ℕ) (start : ℕ) → Exact r run Good → Gives (from pool start r) (λ a ws. Good a × (length (run a) ≤ length pool))
+from-exact : {A : Type 0} {r : Reader A} {run : A → List ℕ} {Good : A → Type 0} (pool : List ℕ) (start : ℕ) → Exact r run Good
+    → Gives (from pool start r) (λ a ws. Good a × (length (run a) ≤ length pool))
 from-exact {A} {r} {run} pool start e = gives.so (gives.from-gives pool start (e .gives)) (λ a ws h.
     let s = h .1 in
     (s .holds .good, omega (arith, length-drop start pool, ap length (s .there), length-append (s .taken) (s .rest), ap length (s .holds .is))))
@@ -60,7 +62,7 @@ module _ (image : List ℕ) (texts : ℕ) (pool : List ℕ) (names strings defin
   unfolding alias-at
   alias-gives start = gives.cond-gives (eqb start NONE) (λ e. gives.give-gives none _ tt) (λ e. gives.last-gives _ (from-exact pool start (type-exact names)) (λ t ws h. h .0))
 
-  name-row-gives : Gives (name-row image texts pool names strings definitions) (λ n ws. GoodName names strings definitions n)
+  name-row-gives : Gives (name-row image texts pool names strings definitions) (λ n ws. GoodName names definitions n)
   unfolding name-row
   name-row-gives = gives.word-then (λ start. gives.word-then (λ size. gives.word-then (λ definition. gives.word-then (λ alias.
       gives.rule-then _ _ (λ a. gives.rule-then _ _ (λ b. gives.last-gives _ (alias-gives alias) (λ t ws h.
@@ -97,7 +99,7 @@ module _ (image : List ℕ) (texts : ℕ) (pool : List ℕ) (names strings defin
         record {
           few-names = omega (arith, good .1);
           few-definitions = omega (arith, bodies .1);
-          names-good = subst (λ (m : ℕ). All (GoodName names strings m) ns) (sym (bodies .1)) (good .0);
+          names-good = subst (λ (m : ℕ). All (GoodName names m) ns) (sym (bodies .1)) (good .0);
           different = different;
           definitions-good = bodies .0;
         },

@@ -87,7 +87,8 @@ module _ (names : ℕ) where
       }
 
   -- a node behind its code, by the kind of the code
-  at-kind : (f : ℕ) {c : ℕ} (k : TypeKind) {ws : List ℕ} {t : ResolvedType} → type-kind c ≡ k → Reads (type-node names (type-tree names f) k c) ws t → Reads (type-tree names (suc f)) (c ∷ ws) t
+  at-kind : (f : ℕ) {c : ℕ} (k : TypeKind) {ws : List ℕ} {t : ResolvedType} → type-kind c ≡ k → Reads (type-node names (type-tree names f) k c) ws t
+      → Reads (type-tree names (suc f)) (c ∷ ws) t
   unfolding type-tree
   at-kind f {c} k {ws} {t} e h = word-reads _ (subst (λ (k : TypeKind). Reads (type-node names (type-tree names f) k c) ws t) (sym e) h)
 

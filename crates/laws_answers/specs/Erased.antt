@@ -5,7 +5,8 @@ use mathlib.Core.List.{[]}
 use mathlib.Core.Option.{Option, none, some}
 use Rattle.rules.specs.Syntax.{ResolvedType, Expr, Statement}
 use Rattle.rules.specs.Refusal.{Result, or-refuse}
-use Rattle.rules.specs.Infer.{PortableExpr, PortableExprKind, typed, type-of, FunctionContext, find-last, Place, of-local, of-self, of-field, nowhere, field-of, place, operand-allowed, unary-allowed, place-type, ensure-same-type, ended, infer-literal, binary-hint, infer-expr}
+use Rattle.rules.specs.Infer.{PortableExpr, PortableExprKind, typed, type-of, FunctionContext, find-last, Place, of-local, of-self, of-field, nowhere, field-of, place}
+use Rattle.rules.specs.Infer.{operand-allowed, unary-allowed, place-type, ensure-same-type, ended, infer-literal, binary-hint, infer-expr}
 use Rattle.rules.specs.Bodies.{PortableStatement}
 use Rattle.laws.specs.Clash.{clash}
 use Rattle.laws_answers.specs.Ends as ends

@@ -37,7 +37,8 @@ unfolding is-empty
 empty [] e = refl
 empty (s ∷ ss) e = clash (cc)
 
-pub statements-erased : (returns : Option ResolvedType) (c : FunctionContext) (ss : List Statement) → Ends Any (project-statements returns c ss) (λ ps. map erased-statement ps ≡ map untyped ss)
+pub statements-erased : (returns : Option ResolvedType) (c : FunctionContext) (ss : List Statement)
+    → Ends Any (project-statements returns c ss) (λ ps. map erased-statement ps ≡ map untyped ss)
 unfolding project-statements
 statements-erased returns c [] = ends.ensure-ends (not (is-some returns)) _ _ tt (λ _. ends.ok-ends [] _ refl)
 statements-erased returns c (Statement.expr e ∷ ss) = ends.err-ends _ tt

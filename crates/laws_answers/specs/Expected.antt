@@ -10,7 +10,8 @@ use lib.Dec.{eqb}
 use Rattle.rules.specs.Syntax.{ResolvedType, TypeExpr, TraitReturn, TraitFnDef, TraitDef, ImplDef, CompiledSchema, Param}
 use Rattle.rules.specs.Types.{normalize-return, same-type, VOID}
 use Rattle.rules.specs.Substitute.{Counted, too-large, done, view, substitute-type}
-use Rattle.rules.specs.Signatures.{PortableSignature, poisoned-params, poisoned-return, resolve-params, resolve-return, resolve-signature, expected-function, expected-list, expected-functions}
+use Rattle.rules.specs.Signatures.{PortableSignature, poisoned-params, poisoned-return, resolve-params, resolve-return, resolve-signature, expected-function}
+use Rattle.rules.specs.Signatures.{expected-list, expected-functions}
 use Rattle.laws.specs.Good.{All, AllOption, Good}
 use Rattle.laws.specs.Types.{Stored}
 use Rattle.laws.specs.TypeExprs.{StoredExpr}
@@ -81,7 +82,8 @@ module _ (names strings : ℕ) (schema : CompiledSchema) (s : GoodSchema names s
         refl,
       )))
 
-  function-ends : (f : TraitFnDef) (o : Counted PortableSignature) (P : ℕ → PortableSignature → Type 0) → Counts o P → Ends Short (expected-function schema params (f .name) o) (λ p. P (p .0) (p .1))
+  function-ends : (f : TraitFnDef) (o : Counted PortableSignature) (P : ℕ → PortableSignature → Type 0) → Counts o P
+      → Ends Short (expected-function schema params (f .name) o) (λ p. P (p .0) (p .1))
   unfolding expected-function
   function-ends f too-large P h = ends.err-ends _ (omega arith)
   function-ends f (done v t) P h = ends.ensure-ends (not (poisoned-params (t .params) || poisoned-return (t .return-type))) _ _ (omega arith) (λ e. ends.ok-ends (v, t) _ (h .holds v t refl))
@@ -98,7 +100,8 @@ module _ (names strings : ℕ) (schema : CompiledSchema) (s : GoodSchema names s
         counted = ap suc (b .counted);
       })))
 
-pub expected-ends : (names strings : ℕ) (schema : CompiledSchema) → GoodSchema names strings schema → (trait : TraitDef) (impl : ImplDef) → GoodTrait names trait → GoodImpl names strings impl
+pub expected-ends : (names strings : ℕ) (schema : CompiledSchema) → GoodSchema names strings schema → (trait : TraitDef) (impl : ImplDef) → GoodTrait names trait
+    → GoodImpl names strings impl
     → Ends Short (expected-functions schema trait impl) (Signed names (trait .functions))
 unfolding expected-functions
 expected-ends names strings schema s trait impl t i =

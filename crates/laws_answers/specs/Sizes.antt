@@ -31,7 +31,12 @@ cond-most false n = omega arith
 pub named-size-most : (ns : List ℕ) (fs : List ImplFnDef) → named-size ns fs ≤ length (each impl-function-words fs)
 unfolding each
 named-size-most ns [] = omega arith
-named-size-most ns (f ∷ fs) = omega (arith, cond-most (member (f .name) ns) (length (impl-function-words f)), named-size-most ns fs, length-append (impl-function-words f) (each impl-function-words fs))
+named-size-most ns (f ∷ fs) = omega (
+  arith,
+  cond-most (member (f .name) ns) (length (impl-function-words f)),
+  named-size-most ns fs,
+  length-append (impl-function-words f) (each impl-function-words fs),
+)
 
 -- a name more in the list
 head-more : (x n : ℕ) (ns : List ℕ) (w : ℕ) → cond (member x ns) w 0 ≤ cond (member x (n ∷ ns)) w 0
