@@ -3,3 +3,4 @@ pub mod Codes
 pub mod Runs
 pub mod Trees
 pub mod Bounded
+pub mod Maybe

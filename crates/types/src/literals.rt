@@ -1,15 +1,11 @@
 // Which literals a type takes. An i64 enters as its bits.
 ghost use mathlib.Core.Path.{_≡_};
-ghost use mathlib.Core.Bool.{Bool};
-ghost use mathlib.Core.Option.{Option};
-ghost use Prim.Native.Nat.{ℕ, _-_, _^_};
+ghost use Prim.Native.Nat.{_-_, _^_};
 ghost use lib.Dec.{ltb};
 ghost use lib.IntN.{pos};
 ghost use lib.Signed.{mag};
-ghost use Rattle.rules.specs.Syntax.{ResolvedType};
-ghost use Rattle.rules.specs.Types.{is-float};
 ghost use Rattle.rules.specs.Fits.{takes, range-of, int-of, int-fits, uint-fits};
-ghost use Rattle.held.specs.Holds.{Each, MaybeHolds};
+ghost use Rattle.held.specs.Holds.{Each, EachMaybe, MaybeHolds};
 ghost use Rattle.types.specs.Ranges.{range};
 ghost use Rattle.types.specs.Literals.{literal-type};
 use crate::tests::is_float;
@@ -26,7 +22,7 @@ pub enum Range {
 }
 
 pub fn literal_int_type(bits: u64, expected: MaybeType) -> MaybeType
-    ensures { λ r. ⌜ ((names : ℕ) (o : Option ResolvedType) → MaybeHolds names expected o → MaybeHolds names r (literal-type 0 bits o)) ⌝ }
+    ensures { λ r. ⌜ EachMaybe expected (λ names o. MaybeHolds names r (literal-type 0 bits o)) ⌝ }
 {
     if expected.some {
         let ty = expected.ty;
@@ -39,7 +35,7 @@ pub fn literal_int_type(bits: u64, expected: MaybeType) -> MaybeType
 }
 
 pub fn literal_uint_type(bits: u64, expected: MaybeType) -> MaybeType
-    ensures { λ r. ⌜ ((names : ℕ) (o : Option ResolvedType) → MaybeHolds names expected o → MaybeHolds names r (literal-type 1 bits o)) ⌝ }
+    ensures { λ r. ⌜ EachMaybe expected (λ names o. MaybeHolds names r (literal-type 1 bits o)) ⌝ }
 {
     if expected.some {
         let ty = expected.ty;
@@ -52,7 +48,7 @@ pub fn literal_uint_type(bits: u64, expected: MaybeType) -> MaybeType
 }
 
 pub fn literal_float_type(bits: u64, expected: MaybeType) -> MaybeType
-    ensures { λ r. ⌜ ((names : ℕ) (o : Option ResolvedType) → MaybeHolds names expected o → MaybeHolds names r (literal-type 2 bits o)) ⌝ }
+    ensures { λ r. ⌜ EachMaybe expected (λ names o. MaybeHolds names r (literal-type 2 bits o)) ⌝ }
 {
     if expected.some {
         let ty = expected.ty;
