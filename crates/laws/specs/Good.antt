@@ -2,15 +2,24 @@
 use Prim.Native.Nat.{ℕ, suc, _≤_, _<_, max}
 use mathlib.Core.Path.{_≡_}
 use mathlib.Core.List.{List, [], _∷_}
+use mathlib.Core.Option.{Option, none, some}
 use lib.ListN.{length}
 use Rattle.rules.specs.Syntax.{ResolvedType, TypeExpr}
 use Rattle.rules.specs.Kinds.{type-kind}
 use Rattle.rules.specs.declared.kinds.TypeKind.{TypeKind}
 
+-- a property of each element
+abbrev pub All : {A : Type 0} → (A → Type 0) → List A → Type 0
+All P [] = Unit {0}
+All P (x ∷ xs) = P x × All P xs
+
+abbrev pub AllOption : {A : Type 0} → (A → Type 0) → Option A → Type 0
+AllOption P none = Unit {0}
+AllOption P (some x) = P x
+
 -- numbers that are all below n
 abbrev pub Below : ℕ → List ℕ → Type 0
-Below n [] = Unit {0}
-Below n (x ∷ xs) = (x < n) × Below n xs
+Below n xs = All (λ x. x < n) xs
 
 -- over the number of name rows
 abbrev pub Good : ℕ → ResolvedType → Type 0
