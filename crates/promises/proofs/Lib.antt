@@ -5,7 +5,6 @@ pub mod Listing
 pub mod Order
 pub mod Numbers
 pub mod Answers
-pub mod Promises
 pub mod Small
 pub mod FineTypes
 pub mod Substituted
@@ -14,3 +13,5 @@ pub mod FineValues
 pub mod FineBodies
 pub mod FineSignatures
 pub mod FineFunctions
+pub mod Outputs
+pub mod Promises
