@@ -15,3 +15,4 @@ pub mod FineSignatures
 pub mod FineFunctions
 pub mod Outputs
 pub mod Promises
+pub mod Wrong
