@@ -12,16 +12,15 @@ use borrow.Author.Tests.{leb-true}
 use Rattle.rules.specs.Words.{bytes-of, over-start}
 use Rattle.rules.specs.Syntax.{ImplDef, CompiledSchema}
 use Rattle.rules.specs.Image.{readable}
-use Rattle.rules.specs.Refusal.{Refusal, Result, ok, err, _>>=_, refusal}
+use Rattle.rules.specs.Refusal.{Result, ok, err, refusal}
 use Rattle.rules.specs.Bodies.{PortableFunction}
-use Rattle.rules.specs.Project.{find-implementation, project-impl}
 use Rattle.rules.specs.Output.{functions-words}
 use Rattle.rules.specs.Answer.{Answer, refused, accepted, too-short, finished, answered, project-call, project-answer}
 use Rattle.words.specs.Words.{length-bytes-of}
 use Rattle.promises.specs.Projects.{Projects}
 use Rattle.promises.specs.Written.{written, Together}
-use Rattle.promises.proofs.Results.{no-ok, steps, same-ok, goes-on}
-use Rattle.promises.proofs.Numbers.{Numbered, Proper, call-proper}
+use Rattle.promises.proofs.Results.{no-ok, steps, same-ok}
+use Rattle.promises.proofs.Numbers.{Proper, call-proper}
 
 -- what was put over the start is the start
 taken : (bs old : List ℕ) → length bs ≤ length old → take (length bs) (over-start bs old) ≡ bs

@@ -1,21 +1,21 @@
 -- Typed statements are such as their words read back to, and their words are small.
 use Prim.Native.Nat.{ℕ, _<_, _≤_}
-use mathlib.Core.Path.{_≡_, refl, sym, ap, subst}
+use mathlib.Core.Path.{_≡_, ap, subst}
 use mathlib.Core.List.{List, [], _∷_, _++_}
 use mathlib.Core.Option.{Option, none, some}
 use native.Mathlib.Omega.{arith}
 use lib.ListN.{length}
-use Rattle.rules.specs.Syntax.{ResolvedType, run, Expr, Statement, Param}
-use Rattle.rules.specs.Refusal.{Result, ok, err, _>>=_}
-use Rattle.rules.specs.Infer.{PortableExpr, type-of, FunctionContext, find-last, infer-expr}
+use Rattle.rules.specs.Syntax.{ResolvedType, run, Expr, Statement}
+use Rattle.rules.specs.Refusal.{ok}
+use Rattle.rules.specs.Infer.{PortableExpr, type-of, FunctionContext, infer-expr}
 use Rattle.rules.specs.Bodies.{PortableStatement, with-local, project-return, project-statements}
 use Rattle.rules.specs.Output.{value-words, statement-words}
 use Rattle.laws.specs.Good.{All, AllOption}
 use Rattle.laws.specs.Exact.{optional}
 use Rattle.laws.specs.Types.{Stored}
 use Rattle.laws.specs.Runs.{expr-words, stored-statement-words, nesting, Nested, GoodStatement}
-use Rattle.laws.specs.Typed.{typed-nesting, TypedNested, TypedStatement}
-use Rattle.promises.proofs.Results.{no-ok, Steps, steps, ensured, found, same-ok}
+use Rattle.laws.specs.Typed.{TypedNested, TypedStatement}
+use Rattle.promises.proofs.Results.{no-ok, steps, ensured, found, same-ok}
 use Rattle.promises.proofs.Erase.{erase, inferred, assigned}
 use Rattle.promises.proofs.Small.{WORD, Small, all-append, small-append, small-left, small-right, small-optional}
 use Rattle.promises.proofs.FineTypes.{Fine, FineParam, stored-fine, fine-last}

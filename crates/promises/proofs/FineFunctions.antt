@@ -1,18 +1,17 @@
 -- Projected functions read back from their words, and their words are small.
-use Prim.Native.Nat.{ℕ, _<_, _≤_}
-use mathlib.Core.Path.{_≡_, refl, sym, ap, subst}
+use Prim.Native.Nat.{ℕ, _≤_}
+use mathlib.Core.Path.{_≡_, refl, subst}
 use mathlib.Core.Bool.{Bool, true, false}
 use mathlib.Core.List.{List, [], _∷_, _++_}
 use mathlib.Core.Option.{Option, none, some}
 use native.Mathlib.Omega.{arith}
-use lib.ListN.{length, getElem?}
+use lib.ListN.{length}
 use lib.Dec.{eqb}
 use Rattle.rules.specs.Syntax.{ResolvedType, run, Param, Statement, FnBody, ImplFnDef, MessageDef, TraitDef, ImplDef, TypeDef, CompiledSchema}
-use Rattle.rules.specs.Refusal.{Result, ok, err, _>>=_}
-use Rattle.rules.specs.Options.{then}
+use Rattle.rules.specs.Refusal.{ok}
 use Rattle.rules.specs.Types.{return-words}
 use Rattle.rules.specs.Substitute.{get, number}
-use Rattle.rules.specs.Signatures.{PortableSignature, is-trait, find-trait, expected-functions}
+use Rattle.rules.specs.Signatures.{PortableSignature, is-trait, find-trait}
 use Rattle.rules.specs.Bodies.{PortableStatement, PortableFunction, block-of, project-function}
 use Rattle.rules.specs.Project.{is-message, is-implementation, find-function, project-list, find-implementation, target-message, project-impl}
 use Rattle.rules.specs.Output.{each, listed, param-words, signature-words, statement-words, function-words, functions-words}
@@ -21,11 +20,11 @@ use Rattle.laws.specs.Each.{at-all, then-all, then-any}
 use Rattle.laws.specs.Exact.{optional}
 use Rattle.laws.specs.Types.{Stored}
 use Rattle.laws.specs.Runs.{stored-statement-words, body-words, GoodStatement, GoodBody}
-use Rattle.laws.specs.DefinitionRuns.{Few, typed-words, message-words, trait-words, impl-function-words, implementation-words, GoodParam, GoodMessage, GoodTrait, GoodFunction, GoodImpl}
+use Rattle.laws.specs.DefinitionRuns.{Few, typed-words, message-words, trait-words, impl-function-words, implementation-words, GoodParam, GoodTrait, GoodFunction, GoodImpl}
 use Rattle.laws.specs.GoodSchema.{GoodSchema, GoodDefinition}
 use Rattle.laws.specs.Typed.{TypedParam, TypedStatement, TypedFunction}
 use Rattle.promises.proofs.Results.{no-ok, steps, found, same-ok}
-use Rattle.promises.proofs.Parts.{Parts, parts}
+use Rattle.promises.proofs.Parts.{parts}
 use Rattle.promises.proofs.Small.{WORD, Small, all-map, all-both, small-append, small-left, small-right, small-listed, listed-small}
 use Rattle.promises.proofs.FineTypes.{Fine, FineParam, stored-fine}
 use Rattle.promises.proofs.Substituted.{SmallDefinition, SmallSchema}
@@ -51,9 +50,11 @@ return-stored (some t) h = h .stored
 
 signature-small : (s : PortableSignature) → FineSignature s → Small (signature-words (s .name) (s .params) (s .return-type))
 unfolding signature-words
-signature-small s h =
-    (h .name, small-append (listed param-words (s .params)) (return-words (s .return-type))
-    (listed-small param-words FineParam param-small (s .params) (omega (arith, h .params .few)) (h .params .each)) (return-small (s .return-type) (h .return-type)))
+signature-small s h = (
+  h .name,
+  small-append (listed param-words (s .params)) (return-words (s .return-type))
+      (listed-small param-words FineParam param-small (s .params) (omega (arith, h .params .few)) (h .params .each)) (return-small (s .return-type) (h .return-type)),
+)
 
 -- a fine signature with fine statements
 fine-function : (s : PortableSignature) (ps : List PortableStatement) → FineSignature s → length ps ≤ 256 → All FineStatement ps

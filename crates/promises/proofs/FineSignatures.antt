@@ -1,14 +1,13 @@
 -- Expected signatures: every type is fine, every name is small.
 use Prim.Native.Nat.{ℕ, _<_, _≤_}
-use mathlib.Core.Path.{_≡_, refl, sym, ap, subst}
-use mathlib.Core.Bool.{Bool, true, false, _||_}
-use mathlib.Core.List.{List, [], _∷_, _++_}
-use mathlib.Core.Option.{Option, none, some}
+use mathlib.Core.Path.{_≡_, refl, subst}
+use mathlib.Core.List.{List, [], _∷_}
+use mathlib.Core.Option.{none, some}
 use native.Mathlib.Omega.{arith}
 use lib.ListN.{length}
 use Rattle.rules.specs.Syntax.{ResolvedType, TypeExpr, run, expr-run, Param, TraitReturn, TraitFnDef, TraitDef, ImplDef, CompiledSchema}
-use Rattle.rules.specs.Refusal.{Result, ok, err, _>>=_}
-use Rattle.rules.specs.Substitute.{Counted, too-large, done, after, view, substitute-type}
+use Rattle.rules.specs.Refusal.{ok}
+use Rattle.rules.specs.Substitute.{Counted, too-large, done, view, substitute-type}
 use Rattle.rules.specs.Signatures.{PortableSignature, resolve-params, resolve-return, resolve-signature, expected-function, expected-list, expected-functions}
 use Rattle.rules.specs.Output.{listed}
 use Rattle.laws.specs.Good.{All, AllOption, Good}
@@ -16,7 +15,7 @@ use Rattle.laws.specs.Types.{Stored}
 use Rattle.laws.specs.TypeExprs.{StoredExpr}
 use Rattle.laws.specs.DefinitionRuns.{Few, own, typed-words, trait-return-words, trait-function-words, trait-words, GoodParam, GoodReturn, GoodTraitFunction, GoodTrait}
 use Rattle.laws.specs.GoodSchema.{GoodSchema}
-use Rattle.laws.specs.Substitution.{Counts, done-counts, after-counts, Accepted, substitute-good}
+use Rattle.laws.specs.Substitution.{Counts, done-counts, after-counts, substitute-good}
 use Rattle.promises.proofs.Results.{no-ok, steps, ensured, same-ok}
 use Rattle.promises.proofs.Small.{WORD, Small, all-map, small-left, small-right, small-listed}
 use Rattle.promises.proofs.FineTypes.{Fine, FineParam, stored-fine, fine-normal}

@@ -1,16 +1,14 @@
 -- Typed expressions are such as their words read back to, and their words are small.
-use Prim.Native.Nat.{ℕ, _<_, _≤_, max}
-use mathlib.Core.Path.{_≡_, refl, sym, ap, subst}
+use Prim.Native.Nat.{ℕ, _<_, _≤_}
+use mathlib.Core.Path.{_≡_, sym, subst}
 use mathlib.Core.Bool.{Bool, true, false, cond}
-use mathlib.Core.List.{List, [], _∷_, _++_}
 use mathlib.Core.Option.{Option, none, some}
 use native.Mathlib.Omega.{arith}
-use Rattle.rules.specs.Syntax.{ResolvedType, run, Expr, Param}
+use Rattle.rules.specs.Syntax.{ResolvedType, run, Expr}
 use Rattle.rules.specs.Types.{BOOL}
 use Rattle.rules.specs.Fits.{literal-fits, literal-own}
-use Rattle.rules.specs.Refusal.{Result, ok, err, _>>=_}
-use Rattle.rules.specs.Options.{or-else}
-use Rattle.rules.specs.Infer.{PortableExpr, PortableExprKind, typed, type-of, FunctionContext, find-last, Place, of-local, of-self, of-field, nowhere, field-of, place, is-arithmetic, place-type, expression-hint, type-mismatch, ended, infer-literal, binary-hint, infer-expr}
+use Rattle.rules.specs.Refusal.{Result, ok}
+use Rattle.rules.specs.Infer.{PortableExpr, PortableExprKind, typed, type-of, FunctionContext, Place, of-local, of-self, of-field, nowhere, field-of, place, is-arithmetic, place-type, expression-hint, type-mismatch, ended, infer-literal, binary-hint, infer-expr}
 use Rattle.rules.specs.Output.{value-words, kind-words}
 use Rattle.laws.specs.Good.{All, AllOption}
 use Rattle.laws.specs.Runs.{expr-words, nesting, GoodValue}

@@ -1,13 +1,11 @@
 -- Outputs of accepted projections: fine functions, whose words and bytes tell them.
-use Prim.Native.Nat.{ℕ, zero, suc, _+_, _^_, _<_, _≤_}
+use Prim.Native.Nat.{ℕ, suc}
 use mathlib.Core.Path.{_≡_, refl, sym, ap, ap₂, _∙_}
 use mathlib.Core.List.{List, [], _∷_, _++_, append-nil}
-use mathlib.Core.Option.{Option, some}
 use native.Mathlib.Omega.{arith}
-use lib.ListN.{length, getD}
+use lib.ListN.{length}
 use Rattle.rules.specs.Words.{words, bytes-of}
-use Rattle.rules.specs.Syntax.{ImplDef, CompiledSchema}
-use Rattle.rules.specs.Image.{readable}
+use Rattle.rules.specs.Syntax.{ImplDef}
 use Rattle.rules.specs.Bodies.{PortableFunction}
 use Rattle.rules.specs.Output.{functions-words}
 use Rattle.words.specs.Words.{word4-le}

@@ -1,12 +1,10 @@
 -- The promises hold.
 use Prim.Native.Nat.{ℕ}
-use mathlib.Core.Path.{_≡_, refl, sym, ap, subst, _∙_}
+use mathlib.Core.Path.{_≡_, sym, ap, subst, _∙_}
 use mathlib.Core.List.{List, [], _++_, append-nil}
-use mathlib.Core.Option.{Option, some}
 use Rattle.rules.specs.Words.{bytes-of}
 use Rattle.rules.specs.Syntax.{ImplDef, CompiledSchema}
-use Rattle.rules.specs.Image.{readable}
-use Rattle.rules.specs.Refusal.{Result, ok, _>>=_}
+use Rattle.rules.specs.Refusal.{ok}
 use Rattle.rules.specs.Bodies.{PortableFunction}
 use Rattle.rules.specs.Project.{find-implementation, project-impl}
 use Rattle.rules.specs.Output.{functions-words}

@@ -1,7 +1,7 @@
 -- Substitution in a schema of small words gives types of small words.
 use Prim.Native.Nat.{ℕ, zero, suc, _<_}
 use mathlib.Core.Bool.{Bool, true, false, cond}
-use mathlib.Core.List.{List, [], _∷_, _++_}
+use mathlib.Core.List.{List, [], _∷_}
 use mathlib.Core.Option.{Option, none, some}
 use native.Mathlib.Omega.{arith}
 use lib.ListN.{getElem?}
@@ -10,7 +10,7 @@ use Rattle.rules.specs.Words.{NONE, same}
 use Rattle.rules.specs.Syntax.{ResolvedType, TypeExpr, run, expr-run, Param, Name, TypeDef, CompiledSchema}
 use Rattle.rules.specs.Options.{then, or, or-else}
 use Rattle.rules.specs.Types.{POISON}
-use Rattle.rules.specs.Substitute.{Counted, too-large, done, after, bounded, primitive, number, definition-of, find-text, find-param, one-parameter, lookup, lookup-primitive-alias, lookup-alias, lookup-qualified, named-or-poison, resolve-name, expand, substitute-node, substitute-depth, substitute-type}
+use Rattle.rules.specs.Substitute.{Counted, primitive, number, definition-of, find-text, find-param, one-parameter, lookup, lookup-primitive-alias, lookup-alias, lookup-qualified, named-or-poison, resolve-name, expand, substitute-node, substitute-depth, substitute-type}
 use Rattle.rules.specs.Output.{listed}
 use Rattle.laws.specs.Good.{All, AllOption}
 use Rattle.laws.specs.Each.{at-all, then-all, then-any}

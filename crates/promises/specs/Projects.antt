@@ -2,10 +2,10 @@
 use Prim.Native.Nat.{ℕ, _<_}
 use mathlib.Core.Path.{_≡_}
 use mathlib.Core.List.{List}
-use mathlib.Core.Option.{Option, some}
+use mathlib.Core.Option.{some}
 use lib.ListN.{getD}
 use Rattle.rules.specs.Syntax.{ImplDef, CompiledSchema}
-use Rattle.rules.specs.Refusal.{Result, ok}
+use Rattle.rules.specs.Refusal.{ok}
 use Rattle.rules.specs.Image.{readable}
 use Rattle.rules.specs.Bodies.{PortableFunction}
 use Rattle.rules.specs.Project.{find-implementation, project-impl}

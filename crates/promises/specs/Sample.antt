@@ -1,7 +1,7 @@
 -- A small image: a message, a trait with no function and one with a function, and implementations of both.
 use Prim.Native.Nat.{ℕ}
 use mathlib.Core.List.{List, [], _∷_, _++_}
-use mathlib.Core.Option.{Option, none, some}
+use mathlib.Core.Option.{none, some}
 use Rattle.rules.specs.Words.{NONE, bytes-of}
 use Rattle.rules.specs.Types.{BOOL}
 use Rattle.rules.specs.Syntax.{ResolvedType, Expr, Statement, FnBody, Name, ImplFnDef, TraitReturn, TraitFnDef, TypeDef, TraitDef, ImplDef, CompiledSchema}

@@ -2,7 +2,7 @@
 use Prim.Native.Nat.{ℕ}
 use mathlib.Core.Bool.{true, false}
 use mathlib.Core.List.{List, [], _∷_, _++_}
-use mathlib.Core.Option.{Option, none, some}
+use mathlib.Core.Option.{none, some}
 use lib.Dec.{eqb}
 use Rattle.rules.specs.Syntax.{run, ImplFnDef, ImplDef, CompiledSchema}
 use Rattle.rules.specs.Refusal.{Result, ok, _>>=_}
