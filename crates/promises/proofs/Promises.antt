@@ -26,10 +26,10 @@ one-image {image} {m} {n} {i} {j} {fs} {gs} p q e =
     (subst (λ (s : CompiledSchema). project-impl s i ≡ ok (p .visits, gs)) s (subst (λ (l : List PortableFunction). project-impl (p .schema) i ≡ ok (p .visits, l)) e (p .is-projected))) (q .is-projected)
 
 pub same-words-same-bodies : SameWordsSameBodies functions-words
-same-words-same-bodies image m n i j fs gs b p q e = one-image p q (same-functions b b p q [] (append-nil (functions-words fs) ∙ e))
+same-words-same-bodies image m n i j fs gs p q e = one-image p q (same-functions p q [] (append-nil (functions-words fs) ∙ e))
 
 pub none-begins-another : NoneBeginsAnother functions-words
-none-begins-another image image′ m n i j fs gs b c p q rest e = ap functions-words (same-functions b c p q rest e)
+none-begins-another image image′ m n i j fs gs p q rest e = ap functions-words (same-functions p q rest e)
 
 pub order-of-listing : OrderOfListing project-impl
 order-of-listing = relisted
@@ -38,7 +38,7 @@ pub same-bytes-same-bodies : SameBytesSameBodies
 same-bytes-same-bodies image m n output output′ detail detail′ b zero zero′ e schema i j is-schema is-i is-j =
     let p = projected image m output detail zero in
     let q = projected image n output′ detail′ zero′ in
-    let fs = same-from-bytes b b (p .projects) (q .projects) [] (append-nil (bytes-of (functions-words (p .functions))) ∙ sym (p .bytes) ∙ e ∙ q .bytes) in
+    let fs = same-from-bytes (p .projects) (q .projects) b b [] (append-nil (bytes-of (functions-words (p .functions))) ∙ sym (p .bytes) ∙ e ∙ q .bytes) in
     let s : p .projects .schema ≡ schema = cc in
     let t : q .projects .schema ≡ schema = cc in
     let x : i ≡ p .impl = same-ok _ _ (sym is-i ∙ ap (λ (s : CompiledSchema). find-implementation s m) (sym s) ∙ p .projects .is-impl) in
@@ -49,7 +49,7 @@ pub no-answer-begins-another : NoAnswerBeginsAnother
 no-answer-begins-another image image′ m n output output′ detail detail′ b c zero zero′ rest e =
     let p = projected image m output detail zero in
     let q = projected image′ n output′ detail′ zero′ in
-    let fs = same-from-bytes b c (p .projects) (q .projects) rest (ap (λ (l : List ℕ). l ++ rest) (sym (p .bytes)) ∙ e ∙ q .bytes) in
+    let fs = same-from-bytes (p .projects) (q .projects) b c rest (ap (λ (l : List ℕ). l ++ rest) (sym (p .bytes)) ∙ e ∙ q .bytes) in
     p .bytes ∙ ap (λ (l : List PortableFunction). bytes-of (functions-words l)) fs ∙ sym (q .bytes)
 
 -- a call is accepted as its implementation is

@@ -23,7 +23,7 @@ use Rattle.laws.specs.Definitions.{message-exact, generic-alias-exact, trait-ex
 use Rattle.laws.specs.GoodSchema.{GoodName}
 use Rattle.laws.specs.Schema.{readable-good}
 use Rattle.promises.proofs.Small.{WORD, Small, small-left, small-words, all-take, all-drop, all-both}
-use Rattle.promises.proofs.Substituted.{SmallType, SmallName, SmallDefinition, SmallSchema}
+use Rattle.promises.proofs.SmallSchema.{SmallType, SmallName, SmallDefinition, SmallSchema}
 
 -- so many readings, of each of which something holds
 times-all : {A : Type 0} {r : Reader A} {P : A → Type 0} → Gives r (λ a ws. P a) → (n : ℕ) → Gives (times n r) (λ xs ws. All P xs)

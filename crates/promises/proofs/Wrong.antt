@@ -1,39 +1,22 @@
 -- Each wrong projector breaks its promise.
-use Prim.Native.Nat.{ℕ, zero, suc, _<_}
+use Prim.Native.Nat.{ℕ}
 use mathlib.Core.Path.{_≡_, refl, ap, _∙_}
 use mathlib.Core.List.{List, [], _∷_}
 use mathlib.Core.Option.{some}
 use native.Mathlib.Omega.{arith}
 use Rattle.rules.specs.Computed.{computed}
-use Rattle.rules.specs.Words.{bytes-of}
 use Rattle.rules.specs.Syntax.{Expr, Statement, FnBody}
 use Rattle.rules.specs.Types.{BOOL}
 use Rattle.rules.specs.Refusal.{Result, ok, err}
 use Rattle.rules.specs.Infer.{PortableExprKind, typed}
 use Rattle.rules.specs.Bodies.{PortableStatement, PortableFunction}
 use Rattle.rules.specs.Image.{readable}
-use Rattle.laws.specs.Good.{Below}
 use Rattle.promises.specs.Bare.{bare, SameStatements}
 use Rattle.promises.specs.Order.{swap}
-use Rattle.promises.specs.Projects.{Bytes, Projects}
+use Rattle.promises.specs.Projects.{Projects}
 use Rattle.promises.specs.Promises.{SameWordsSameBodies, NoneBeginsAnother, OrderOfListing}
 use Rattle.promises.specs.Wrong.{without-values, without-count, in-listing-order}
-use Rattle.promises.specs.Sample.{texts, sections, sample, returns, implements, held, two-asked}
-use Rattle.promises.proofs.Small.{all-append}
-
--- the sample is a list of bytes
-below-bytes : (xs : List ℕ) → Below 256 xs → Bytes xs
-below-bytes [] h i = omega arith
-below-bytes (x ∷ xs) h zero = h .0
-below-bytes (x ∷ xs) h (suc i) = below-bytes xs (h .1) i
-
-bytes-of-below : (ws : List ℕ) → Below 256 (bytes-of ws)
-unfolding bytes-of
-bytes-of-below [] = tt
-bytes-of-below (w ∷ ws) = (omega arith, (omega arith, (omega arith, (omega arith, bytes-of-below ws))))
-
-sample-bytes : Bytes sample
-sample-bytes = below-bytes sample (all-append (λ b. b < 256) texts (bytes-of sections) (omega arith, (omega arith, (omega arith, tt))) (bytes-of-below sections))
+use Rattle.promises.specs.Sample.{sample, returns, implements, held, two-asked}
 
 -- it holds what it is said to hold
 sample-held : readable sample ≡ some held
@@ -68,13 +51,13 @@ different s =
 -- 1: true and false look alike where values are dropped
 pub values-dropped : SameWordsSameBodies without-values → ⊥
 unfolding computed
-values-dropped h = different (h sample 4 5 _ _ _ _ sample-bytes true-projects false-projects refl 0)
+values-dropped h = different (h sample 4 5 _ _ _ _ true-projects false-projects refl 0)
 
 -- 2: no function at all begins any output where the count is left out
 pub count-left-out : NoneBeginsAnother without-count → ⊥
 unfolding computed
 count-left-out h =
-    let e : _≡_ {A = List ℕ} [] (0 ∷ 0 ∷ 1 ∷ 0 ∷ 1 ∷ 2 ∷ 1 ∷ 0 ∷ 3 ∷ 1 ∷ []) = h sample sample 3 4 _ _ _ _ sample-bytes sample-bytes none-projects true-projects _ refl in
+    let e : _≡_ {A = List ℕ} [] (0 ∷ 0 ∷ 1 ∷ 0 ∷ 1 ∷ 2 ∷ 1 ∷ 0 ∷ 3 ∷ 1 ∷ []) = h sample sample 3 4 _ _ _ _ none-projects true-projects _ refl in
     let z : _≡_ {A = ℕ} 0 1 = cc in
     omega arith
 

@@ -20,13 +20,13 @@ use Rattle.promises.specs.Projects.{Bytes, Projects}
 -- 1. Same words, same bodies: under every name the two implementations of an image list functions with the same statements, but for types written on lets
 abbrev pub SameWordsSameBodies : (List PortableFunction → List ℕ) → Type 0
 SameWordsSameBodies out =
-    (image : List ℕ) (m n : ℕ) (i j : ImplDef) (fs gs : List PortableFunction) → Bytes image → Projects image m i fs → Projects image n j gs
+    (image : List ℕ) (m n : ℕ) (i j : ImplDef) (fs gs : List PortableFunction) → Projects image m i fs → Projects image n j gs
     → out fs ≡ out gs → SameBodies i j
 
 -- 2. No output begins another, be it of another image
 abbrev pub NoneBeginsAnother : (List PortableFunction → List ℕ) → Type 0
 NoneBeginsAnother out =
-    (image image′ : List ℕ) (m n : ℕ) (i j : ImplDef) (fs gs : List PortableFunction) → Bytes image → Bytes image′ → Projects image m i fs → Projects image′ n j gs
+    (image image′ : List ℕ) (m n : ℕ) (i j : ImplDef) (fs gs : List PortableFunction) → Projects image m i fs → Projects image′ n j gs
     → (rest : List ℕ) → out fs ++ rest ≡ out gs → out fs ≡ out gs
 
 -- 3. Order of listing does not matter: what one implementation projects to, the other does
