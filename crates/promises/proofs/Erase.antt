@@ -1,16 +1,16 @@
 -- Typed statements without their types are the statements that they came from, but for the types written on lets.
-use Prim.Native.Nat.{ℕ, _+_, _*_}
+use Prim.Native.Nat.{ℕ}
 use mathlib.Core.Path.{_≡_, refl, sym, ap, ap₂, _∙_}
-use mathlib.Core.Bool.{Bool, true, false, cond, not}
+use mathlib.Core.Bool.{true}
 use mathlib.Core.List.{List, [], _∷_, map}
 use mathlib.Core.Option.{Option, none, some}
 use native.Mathlib.Omega.{arith}
 use Rattle.rules.specs.Syntax.{ResolvedType, Expr, Statement}
-use Rattle.rules.specs.Refusal.{Result, ok, err, _>>=_, ensure, or-refuse}
+use Rattle.rules.specs.Refusal.{ok}
 use Rattle.rules.specs.Infer.{PortableExpr, PortableExprKind, typed, FunctionContext, Place, of-local, of-self, of-field, nowhere, field-of, place, place-type, ended, infer-expr}
 use Rattle.rules.specs.Bodies.{PortableStatement, is-empty, project-return, assigned-field, project-statements}
-use Rattle.promises.specs.Bare.{bare-statement, bare}
-use Rattle.promises.proofs.Results.{no-ok, Steps, steps, ensured, found, same-ok}
+use Rattle.promises.specs.Bare.{bare}
+use Rattle.promises.proofs.Results.{no-ok, steps, ensured, found, same-ok}
 
 abbrev mutual
   pub erase : PortableExpr → Expr

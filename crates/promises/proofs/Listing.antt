@@ -1,6 +1,6 @@
 -- Each typed function comes from the function of its name, and nothing else is listed.
 use Prim.Native.Nat.{ℕ}
-use mathlib.Core.Path.{_≡_, refl, sym, ap, ap₂, subst, _∙_}
+use mathlib.Core.Path.{_≡_, refl, sym, ap, ap₂, _∙_}
 use mathlib.Core.Bool.{Bool, true, false}
 use mathlib.Core.List.{List, [], _∷_, map}
 use mathlib.Core.Option.{Option, none, some}
@@ -9,15 +9,15 @@ use lib.Dec.{eqb}
 use borrow.Author.Tests.{eqb-true}
 use Rattle.rules.specs.Words.{member}
 use Rattle.rules.specs.Syntax.{Statement, FnBody, ImplFnDef, ImplDef, MessageDef, CompiledSchema}
-use Rattle.rules.specs.Refusal.{Result, ok, _>>=_}
+use Rattle.rules.specs.Refusal.{ok}
 use Rattle.rules.specs.Signatures.{PortableSignature}
-use Rattle.rules.specs.Bodies.{PortableStatement, PortableFunction, block-of, project-function}
+use Rattle.rules.specs.Bodies.{PortableFunction, block-of, project-function}
 use Rattle.rules.specs.Project.{no-stranger, find-function, project-list, project-impl}
 use Rattle.laws.specs.Good.{All}
 use Rattle.promises.specs.Bare.{bare, SameFunction, SameBodies}
 use Rattle.promises.proofs.Results.{no-ok, steps, ensured, found, same-ok}
 use Rattle.promises.proofs.Erase.{erase-statement, erased}
-use Rattle.promises.proofs.Parts.{Parts, parts}
+use Rattle.promises.proofs.Parts.{parts}
 
 -- a typed function is made of the function of its name
 pub record From (impl : ImplDef) (f : PortableFunction) : Type 0 where
@@ -40,13 +40,16 @@ module _ (impl : ImplDef) (message : MessageDef) where
       let b = steps _ _ _ q in
       let p = steps _ _ _ (b .behind) in
       let e = same-ok _ _ (p .behind) in
-      rw (← e) (record {
-        actual = actual;
-        statements = b .value;
-        is-found = h;
-        is-block = blocked _ _ _ (b .before);
-        is-bare = erased _ _ (b .value) (p .value) (p .before);
-      }, refl)
+      rw (← e) (
+        record {
+          actual = actual;
+          statements = b .value;
+          is-found = h;
+          is-block = blocked _ _ _ (b .before);
+          is-bare = erased _ _ (b .value) (p .value) (p .before);
+        },
+        refl,
+      )
 
   -- all of a list, under the names that were expected
   all-from : (ss : List PortableSignature) (fs : List PortableFunction) → project-list impl message ss ≡ ok fs

@@ -4,15 +4,14 @@ use mathlib.Core.Bool.{Bool, true, false}
 use mathlib.Core.List.{List, [], _∷_}
 use mathlib.Core.Option.{Option, none, some}
 use native.Mathlib.Omega.{arith}
-use lib.Dec.{eqb}
 use Rattle.rules.specs.Syntax.{ResolvedType, Expr, Statement, FnBody, Param, ImplFnDef, MessageDef, TraitDef, TraitFnDef, ImplDef, CompiledSchema}
 use Rattle.rules.specs.Refusal.{Refusal, Result, ok, err, _>>=_, ensure, or-refuse}
 use Rattle.rules.specs.Types.{same-type}
 use Rattle.rules.specs.Fits.{literal-fits, literal-own}
 use Rattle.rules.specs.Substitute.{Counted, too-large, done}
-use Rattle.rules.specs.Signatures.{PortableSignature, find-trait, expected-function, expected-list, expected-functions, resolve-signature}
+use Rattle.rules.specs.Signatures.{PortableSignature, find-trait, expected-function, expected-list, expected-functions}
 use Rattle.rules.specs.CheckSignature.{check-params, check-signature}
-use Rattle.rules.specs.Infer.{PortableExpr, PortableExprKind, type-of, FunctionContext, Place, of-local, of-self, of-field, nowhere, type-mismatch, ensure-same-type, ended, infer-literal, infer-expr}
+use Rattle.rules.specs.Infer.{PortableExprKind, type-of, FunctionContext, Place, of-local, of-self, of-field, nowhere, type-mismatch, ensure-same-type, ended, infer-literal, infer-expr}
 use Rattle.rules.specs.Bodies.{with-local, project-return, assigned-field, project-statements, block-of, project-function}
 use Rattle.rules.specs.Project.{no-repeat, no-stranger, project-list, find-implementation, target-message, project-impl}
 use Rattle.rules.specs.Answer.{project-call}
@@ -110,7 +109,7 @@ module _ (c : FunctionContext) where
   infer-proper (Expr.unary op e) x n =
       then-proper _ _ (infer-proper e x 7) (λ v. then-proper _ _ (ensure-proper _ _ (omega arith)) (λ u. ended-proper x n _ _))
 
--- ---- bodies
+  -- ---- bodies
 
   return-proper : (t : Option ResolvedType) (v : Option Expr) → Proper (project-return c t v)
   unfolding project-return

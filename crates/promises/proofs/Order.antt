@@ -3,20 +3,20 @@ use Prim.Native.Nat.{ℕ}
 use mathlib.Core.Path.{_≡_, refl, sym, ap, _∙_}
 use mathlib.Core.Logic.{_↔_}
 use mathlib.Core.Bool.{Bool, true, false, not}
-use mathlib.Core.List.{List, [], _∷_, map}
-use mathlib.Core.Option.{Option, none, some}
+use mathlib.Core.List.{List, [], _∷_}
+use mathlib.Core.Option.{Option, some}
 use native.Mathlib.Omega.{arith}
 use lib.Dec.{eqb}
 use borrow.Author.Tests.{eqb-true, eq-eqb}
 use Rattle.rules.specs.Words.{member}
 use Rattle.rules.specs.Syntax.{ImplFnDef, ImplDef, MessageDef, TraitDef, CompiledSchema}
-use Rattle.rules.specs.Refusal.{Result, ok, err, _>>=_, ensure, or-refuse, in-function}
+use Rattle.rules.specs.Refusal.{Result, ok, _>>=_, ensure}
 use Rattle.rules.specs.Signatures.{PortableSignature, find-trait, expected-functions}
 use Rattle.rules.specs.Bodies.{PortableFunction, project-function}
 use Rattle.rules.specs.Project.{no-repeat, no-stranger, find-function, project-list, target-message, project-impl}
 use Rattle.promises.specs.Order.{Reordered, same, swap, keep, both, Relisted}
-use Rattle.promises.proofs.Results.{no-ok, steps, ensured, found, same-ok, goes-on, is-there}
-use Rattle.promises.proofs.Parts.{Parts, parts, whole}
+use Rattle.promises.proofs.Results.{ensured, found, is-there}
+use Rattle.promises.proofs.Parts.{parts, whole}
 
 -- the other way round
 back : {fs gs : List ImplFnDef} → Reordered fs gs → Reordered gs fs

@@ -2,10 +2,10 @@
 use Prim.Native.Nat.{ℕ, zero, suc, _-_, _<_, _≤_}
 use mathlib.Core.Path.{_≡_, refl, subst}
 use mathlib.Core.Bool.{Bool, true, false, _||_}
-use mathlib.Core.List.{List, [], _∷_, _++_}
+use mathlib.Core.List.{List, [], _++_}
 use mathlib.Core.Option.{Option, none, some}
 use native.Mathlib.Omega.{arith}
-use lib.ListN.{length, drop, take}
+use lib.ListN.{length, drop}
 use lib.Dec.{ltb, eqb}
 use borrow.Author.Tests.{ltb-true, eqb-true}
 use Rattle.rules.specs.Words.{NONE, words}
@@ -20,10 +20,10 @@ use Rattle.laws.specs.Gives.{Gives}
 use Rattle.laws.specs.Exact.{Exact}
 use Rattle.laws.specs.Types.{type-exact}
 use Rattle.laws.specs.Definitions.{message-exact, generic-alias-exact, trait-exact, implementation-exact}
-use Rattle.laws.specs.GoodSchema.{GoodName, GoodSchema}
+use Rattle.laws.specs.GoodSchema.{GoodName}
 use Rattle.laws.specs.Schema.{readable-good}
 use Rattle.promises.proofs.Small.{WORD, Small, small-left, small-words, all-take, all-drop, all-both}
-use Rattle.promises.proofs.Substituted.{SmallType, SmallName, SmallDefinition, SmallSchema}
+use Rattle.promises.proofs.SmallSchema.{SmallType, SmallName, SmallDefinition, SmallSchema}
 
 -- so many readings, of each of which something holds
 times-all : {A : Type 0} {r : Reader A} {P : A → Type 0} → Gives r (λ a ws. P a) → (n : ℕ) → Gives (times n r) (λ xs ws. All P xs)
