@@ -122,6 +122,6 @@ module _ (image : List ℕ) (bytes : Below 256 image) where
       let good = readable-good image s e .1 in
       let small = readable-rows s e in
       record {
-        names = all-both (GoodName _ _ _) SmallAlias SmallName (λ n g h. record { definition = row-small (n .definition) _ (good .few-definitions) (g .definition); alias = h }) (s .names) (good .names-good) (small .aliases);
+        names = all-both (GoodName _ _) SmallAlias SmallName (λ n g h. record { definition = row-small (n .definition) _ (good .few-definitions) (g .definition); alias = h }) (s .names) (good .names-good) (small .aliases);
         definitions = small .definitions;
       }
