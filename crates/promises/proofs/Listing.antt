@@ -4,7 +4,6 @@ use mathlib.Core.Path.{_≡_, refl, sym, ap₂, _∙_}
 use mathlib.Core.Bool.{Bool, true, false}
 use mathlib.Core.List.{List, [], _∷_, map}
 use mathlib.Core.Option.{Option, none, some}
-use native.Mathlib.Omega.{arith}
 use lib.Dec.{eqb}
 use borrow.Author.Tests.{eqb-true}
 use Rattle.rules.specs.Words.{member}
@@ -14,6 +13,7 @@ use Rattle.rules.specs.Signatures.{PortableSignature}
 use Rattle.rules.specs.CheckSignature.{check-signature}
 use Rattle.rules.specs.Bodies.{PortableFunction, block-of, project-statements, project-function}
 use Rattle.rules.specs.Project.{no-stranger, find-function, project-list, project-impl}
+use Rattle.laws.specs.Clash.{clash}
 use Rattle.laws.specs.Good.{All}
 use Rattle.laws_answers.specs.Ends as ends
 use Rattle.laws_answers.specs.Ends.{Ends, Any}
@@ -39,7 +39,7 @@ names-expected i m (s ∷ ss) =
 -- a function of no known name is not found
 known-found : (known : List ℕ) (fs : List ImplFnDef) (x : ℕ) (f : ImplFnDef) → no-stranger known fs ≡ ok tt → find-function x fs ≡ some f → member x known ≡ true
 unfolding no-stranger find-function
-known-found known [] x f q h = absurd (let z : _≡_ {A = ℕ} 0 1 = cc in omega arith)
+known-found known [] x f q h = clash (cc)
 known-found known (g ∷ fs) x f q h = go (eqb x (g .name)) refl h (ensured _ _ _ _ q) (known-found known fs x f)
   where
     go : (b : Bool) → eqb x (g .name) ≡ b → (elim b [ true ↦ some g | false ↦ find-function x fs ]) ≡ some f → (member (g .name) known ≡ true) × (no-stranger known fs ≡ ok tt)
@@ -52,7 +52,7 @@ module _ (i j : ImplDef) (x : ℕ) where
   picked : (fs : List PortableFunction) → All (Comes (i .functions)) fs → All (Comes (j .functions)) fs → member x (names fs) ≡ true
       → SameFunction (find-function x (i .functions)) (find-function x (j .functions))
   unfolding member
-  picked [] a b q = absurd (let z : _≡_ {A = ℕ} 0 1 = cc in omega arith)
+  picked [] a b q = clash (cc)
   picked (f ∷ fs) a b q = go (eqb x (f .name)) refl q (picked fs (a .1) (b .1))
     where
       go : (t : Bool) → eqb x (f .name) ≡ t → (elim t [ true ↦ true | false ↦ member x (names fs) ]) ≡ true
@@ -69,8 +69,8 @@ module _ (i j : ImplDef) (x : ℕ) where
     where
       go : (o p : Option ImplFnDef) → find-function x (i .functions) ≡ o → find-function x (j .functions) ≡ p → SameFunction o p
       go none none g h = tt
-      go none (some f) g h = absurd (let k = known-found known (j .functions) x f q h in let z : _≡_ {A = ℕ} 0 1 = cc in omega arith)
-      go (some f) o g h = absurd (let k = known-found known (i .functions) x f p g in let z : _≡_ {A = ℕ} 0 1 = cc in omega arith)
+      go none (some f) g h = let k = known-found known (j .functions) x f q h in clash (cc)
+      go (some f) o g h = let k = known-found known (i .functions) x f p g in clash (cc)
 
 -- implementations with the same typed functions have the same bodies
 pub same-bodies : (schema : CompiledSchema) (i j : ImplDef) (v w : ℕ) (fs : List PortableFunction)
