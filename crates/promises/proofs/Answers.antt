@@ -51,7 +51,7 @@ module _ (output detail : List ℕ) where
   wrote : (q : Result (ℕ × List ℕ)) → Proper q → finished q output detail .number ≡ 0 → Wrote q (finished q output detail)
   unfolding finished refused
   wrote (ok p) h e = record { result = p; is-result = refl; bytes = wrote-fitted p _ refl e }
-  wrote (err r) h e = absurd (omega (arith, h .low))
+  wrote (err r) h e = absurd (omega (arith, h .refuses r refl .low))
 
 -- an answer by the detail's length and by what was read
 abbrev opened : (CompiledSchema → Result (ℕ × List ℕ)) → List ℕ → List ℕ → Bool → Option CompiledSchema → Answer
@@ -133,7 +133,7 @@ module _ (output output′ detail detail′ : List ℕ) (room : length output �
   together-finished (ok p) (err s) g h e = absurd (no-ok _ _ (e p .0 refl))
   together-finished (err r) (ok s) g h e = absurd (no-ok _ _ (e s .1 refl))
   together-finished (err r) (err s) g h e =
-      neither _ _ (λ k. omega (arith, g .low)) (λ k. omega (arith, h .low)) (λ k. omega (arith, g .high)) (λ k. omega (arith, h .high))
+      neither _ _ (λ k. omega (arith, g .refuses r refl .low)) (λ k. omega (arith, h .refuses s refl .low)) (λ k. omega (arith, g .refuses r refl .high)) (λ k. omega (arith, h .refuses s refl .high))
 
   pub together-opened : (call call′ : CompiledSchema → Result (ℕ × List ℕ)) (schema : CompiledSchema) (b : Bool) → Together (finished (call schema) output detail) (finished (call′ schema) output′ detail′)
       → Together (opened call output detail b (some schema)) (opened call′ output′ detail′ b (some schema))

@@ -1,5 +1,4 @@
 pub mod Results
-pub mod Erase
 pub mod Parts
 pub mod Listing
 pub mod Order

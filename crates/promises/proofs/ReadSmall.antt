@@ -14,6 +14,7 @@ use Rattle.rules.specs.Reader.{Rest, rest-at, Reader, from, repeat, times}
 use Rattle.rules.specs.Kinds.{definition-kind}
 use Rattle.rules.specs.declared.kinds.DefinitionKind.{DefinitionKind}
 use Rattle.rules.specs.Image.{part, Trailer, trailer, alias-at, name-row, string-row, definition-node, definition-row, rows, sections, schema, readable}
+use Rattle.laws.specs.Clash.{clash}
 use Rattle.laws.specs.Good.{All, AllOption, Below}
 use Rattle.laws.specs.Gives as gives
 use Rattle.laws.specs.Gives.{Gives}
@@ -105,7 +106,7 @@ module _ (image : List ℕ) (bytes : Below 256 image) where
     where
       go : (o : Option (CompiledSchema × Rest)) → schema image (length image) (rest-at [] 0) ≡ o
           → _≡_ {A = Option CompiledSchema} (elim o as (λ _. Option CompiledSchema) [ none ↦ none | some p ↦ some (p .0) ]) (some s) → SmallRows s
-      go none q e = absurd (let z : _≡_ {A = ℕ} 0 1 = cc in omega arith)
+      go none q e = clash (cc)
       go (some p) q e = let same : p .0 ≡ s = cc in subst SmallRows same (schema-small .found (rest-at [] 0) (p .0) (p .1) q .holds)
 
   -- a definition's number, or NONE
@@ -115,13 +116,13 @@ module _ (image : List ℕ) (bytes : Below 256 image) where
       go : (a b : Bool) → ltb n rows ≡ a → eqb n NONE ≡ b → (a || b) ≡ true → n < WORD
       go true b p q e = omega (arith, ltb-true n rows p)
       go false true p q e = omega (arith, eqb-true n NONE q)
-      go false false p q e = absurd (let z : _≡_ {A = ℕ} 0 1 = cc in omega arith)
+      go false false p q e = clash (cc)
 
   pub readable-small : (s : CompiledSchema) → readable image ≡ some s → SmallSchema s
   readable-small s e =
       let good = readable-good image s e .1 in
       let small = readable-rows s e in
       record {
-        names = all-both (GoodName _ _ _) SmallAlias SmallName (λ n g h. record { definition = row-small (n .definition) _ (good .few-definitions) (g .definition); alias = h }) (s .names) (good .names-good) (small .aliases);
+        names = all-both (GoodName _ _) SmallAlias SmallName (λ n g h. record { definition = row-small (n .definition) _ (good .few-definitions) (g .definition); alias = h }) (s .names) (good .names-good) (small .aliases);
         definitions = small .definitions;
       }

@@ -1,19 +1,20 @@
 -- The words of projected functions are small.
 use Prim.Native.Nat.{ℕ, _<_}
-use mathlib.Core.Path.{_≡_, subst}
+use mathlib.Core.Path.{_≡_}
 use mathlib.Core.Bool.{Bool, true, false}
-use mathlib.Core.List.{List, [], _∷_, _++_}
+use mathlib.Core.List.{List, [], _∷_, _++_, map}
 use mathlib.Core.Option.{Option, none, some}
 use native.Mathlib.Omega.{arith}
 use lib.Dec.{eqb}
-use Rattle.rules.specs.Syntax.{ResolvedType, run, Param, Statement, FnBody, ImplFnDef, MessageDef, TraitDef, ImplDef, TypeDef, CompiledSchema}
+use Rattle.rules.specs.Syntax.{ResolvedType, run, Param, FnBody, ImplFnDef, MessageDef, TraitDef, ImplDef, TypeDef, CompiledSchema}
 use Rattle.rules.specs.Refusal.{ok}
 use Rattle.rules.specs.Types.{return-words}
 use Rattle.rules.specs.Options.{then}
 use Rattle.rules.specs.Substitute.{get, number}
 use Rattle.rules.specs.Signatures.{PortableSignature, is-trait, find-trait}
+use Rattle.rules.specs.CheckSignature.{check-signature}
 use Rattle.rules.specs.Bodies.{PortableFunction, block-of, project-function}
-use Rattle.rules.specs.Project.{is-message, is-implementation, find-function, project-list, find-implementation, target-message, project-impl}
+use Rattle.rules.specs.Project.{is-message, is-implementation, no-repeat, no-stranger, find-function, project-list, find-implementation, target-message, project-impl}
 use Rattle.rules.specs.Output.{listed, param-words, signature-words, statement-words, function-words, functions-words}
 use Rattle.laws.specs.Good.{All, AllOption}
 use Rattle.laws.specs.Each.{at-all, then-all, then-any}
@@ -21,8 +22,9 @@ use Rattle.laws.specs.Exact.{optional}
 use Rattle.laws.specs.Runs.{stored-statement-words, body-words}
 use Rattle.laws.specs.DefinitionRuns.{Few, typed-words, message-words, trait-words, impl-function-words, implementation-words}
 use Rattle.laws.specs.Typed.{TypedFunction}
-use Rattle.promises.proofs.Results.{no-ok, steps, found, same-ok}
-use Rattle.promises.proofs.Parts.{parts}
+use Rattle.laws_answers.specs.Ends as ends
+use Rattle.laws_answers.specs.Ends.{Ends, Any}
+use Rattle.laws_answers.specs.Erased.{any-ends}
 use Rattle.promises.proofs.Small.{WORD, Small, all-both, small-append, small-left, small-right, small-listed, listed-small}
 use Rattle.promises.proofs.SmallSchema.{SmallType, SmallParam, SmallDefinition, SmallSchema}
 use Rattle.promises.proofs.SmallBodies.{SmallStored, SmallStatement, small-statements}
@@ -67,6 +69,9 @@ functions-small names fs g h =
 abbrev SmallActual : ImplFnDef → Type 0
 SmallActual f = Small (impl-function-words f)
 
+abbrev SmallTrait : TraitDef → Type 0
+SmallTrait t = Small (trait-words t)
+
 abbrev SmallMessage : MessageDef → Type 0
 SmallMessage m = All SmallParam (m .fields)
 
@@ -80,20 +85,18 @@ unfolding impl-function-words
 body-small f h =
     small-right (optional run (f .return-type)) (body-words (f .body)) (small-right (listed (typed-words run) (f .params)) (optional run (f .return-type) ++ body-words (f .body)) (h .1))
 
-block-small : (f : ℕ) (b : FnBody) (ss : List Statement) → Small (body-words b) → block-of f b ≡ ok ss → All SmallStored ss
+block-small : (f : ℕ) (b : FnBody) → Small (body-words b) → Ends Any (block-of f b) (All SmallStored)
 unfolding block-of body-words
-block-small f FnBody.external ss h q = absurd (no-ok _ _ q)
-block-small f (FnBody.block rs) ss h q = subst (All SmallStored) (same-ok _ _ q) (small-listed stored-statement-words rs (h .1))
+block-small f FnBody.external h = ends.err-ends _ tt
+block-small f (FnBody.block ss) h = ends.ok-ends ss (All SmallStored) (small-listed stored-statement-words ss (h .1))
 
-small-projected : (f : ImplFnDef) (s : PortableSignature) (m : MessageDef) (i : ImplDef) (p : PortableFunction)
-    → SmallActual f → SmallSignature s → SmallMessage m → SmallType (i .target-type) → project-function f s m i ≡ ok p → SmallFunction p
+small-projected : (f : ImplFnDef) (s : PortableSignature) (m : MessageDef) (i : ImplDef) → SmallActual f → SmallSignature s → SmallMessage m → SmallType (i .target-type)
+    → Ends Any (project-function f s m i) SmallFunction
 unfolding project-function
-small-projected f s m i p a h fields own q =
-    let b = steps _ _ _ q in
-    let r = steps _ _ _ (b .behind) in
-    let ss = block-small (f .name) (f .body) (b .value) (body-small f a) (b .before) in
-    let ps = small-statements (s .return-type) (h .return-type) _ (record { locals = h .params; fields = fields; self-type = own }) (b .value) (r .value) ss (r .before) in
-    subst SmallFunction (same-ok _ _ (r .behind)) (record { name = h .name; params = h .params; return-type = h .return-type; statements = ps })
+small-projected f s m i a h fields own =
+    ends.then-ends (block-small (f .name) (f .body) (body-small f a)) (λ ss b.
+    ends.then-ends (small-statements (s .return-type) (h .return-type) _ (record { locals = h .params; fields = fields; self-type = own }) ss b) (λ ps p.
+    ends.ok-ends _ SmallFunction (record { name = h .name; params = h .params; return-type = h .return-type; statements = p })))
 
 small-find : (x : ℕ) (fs : List ImplFnDef) → All SmallActual fs → AllOption SmallActual (find-function x fs)
 unfolding find-function
@@ -104,18 +107,14 @@ small-find x (f ∷ fs) h = go (eqb x (f .name)) (small-find x fs (h .1))
     go true ih = h .0
     go false ih = ih
 
-small-list : (i : ImplDef) (m : MessageDef) → SmallImpl i → SmallMessage m → (ss : List PortableSignature) (fs : List PortableFunction) → All SmallSignature ss → project-list i m ss ≡ ok fs → All SmallFunction fs
+small-list : (i : ImplDef) (m : MessageDef) → SmallImpl i → SmallMessage m → (ss : List PortableSignature) → All SmallSignature ss → Ends Any (project-list i m ss) (All SmallFunction)
 unfolding project-list
-small-list i m l t [] fs h q = subst (All SmallFunction) (same-ok _ _ q) tt
-small-list i m l t (s ∷ ss) fs h q =
-    let a = steps _ _ _ q in
-    let c = steps _ _ _ (a .behind) in
-    let f = steps _ _ _ (c .behind) in
-    let r = steps _ _ _ (f .behind) in
-    let actual : SmallActual (a .value) = subst (AllOption SmallActual) (found _ _ _ (a .before)) (small-find (s .name) (i .functions) (l .functions)) in
-    let one = small-projected (a .value) s m i (f .value) actual (h .0) t (l .target-type) (f .before) in
-    let more = small-list i m l t ss (r .value) (h .1) (r .before) in
-    subst (All SmallFunction) (same-ok _ _ (r .behind)) (one, more)
+small-list i m l t [] h = ends.ok-ends [] _ tt
+small-list i m l t (s ∷ ss) h =
+    ends.then-ends (ends.refuse-ends SmallActual (find-function (s .name) (i .functions)) _ tt (small-find (s .name) (i .functions) (l .functions))) (λ f a.
+    ends.then-ends (any-ends (check-signature f s)) (λ _ _.
+    ends.then-ends (small-projected f s m i a (h .0) t (l .target-type)) (λ g p.
+    ends.then-ends (small-list i m l t ss (h .1)) (λ gs q. ends.ok-ends _ (All SmallFunction) (p, q)))))
 
 -- ---- from a schema's rows
 
@@ -127,7 +126,7 @@ message-small (TypeDef.generic-alias a) h = tt
 message-small (TypeDef.trait t) h = tt
 message-small (TypeDef.implementation i) h = tt
 
-trait-small : (d : TypeDef) → SmallDefinition d → AllOption (λ t. Small (trait-words t)) (is-trait d)
+trait-small : (d : TypeDef) → SmallDefinition d → AllOption SmallTrait (is-trait d)
 unfolding is-trait
 trait-small TypeDef.other h = tt
 trait-small (TypeDef.message m) h = tt
@@ -159,21 +158,25 @@ module _ (schema : CompiledSchema) (small : SmallSchema schema) where
   row-small : {A : Type 0} (P : A → Type 0) (is : TypeDef → Option A) → ((d : TypeDef) → SmallDefinition d → AllOption P (is d)) → (n : ℕ) → AllOption P (then (get schema n) is)
   row-small P is k n = then-all SmallDefinition P (get schema n) is (at-all SmallDefinition (schema .definitions) n (small .definitions)) k
 
-  found-impl : (row : ℕ) (i : ImplDef) → find-implementation schema row ≡ ok i → SmallImpl i
+  implementation-found : (row : ℕ) → Ends Any (find-implementation schema row) SmallImpl
   unfolding find-implementation
-  found-impl row i q = subst (AllOption SmallImpl) (found _ _ _ q) (row-small SmallImpl is-implementation implementation-small row)
+  implementation-found row = ends.refuse-ends SmallImpl _ _ tt (row-small SmallImpl is-implementation implementation-small row)
 
-  found-trait : (i : ImplDef) (t : TraitDef) → find-trait schema i ≡ ok t → Small (trait-words t)
+  trait-found : (i : ImplDef) → Ends Any (find-trait schema i) SmallTrait
   unfolding find-trait
-  found-trait i t q = subst (AllOption (λ t. Small (trait-words t))) (found _ _ _ q) (row-small (λ t. Small (trait-words t)) is-trait trait-small (i .trait-id))
+  trait-found i = ends.refuse-ends SmallTrait _ _ tt (row-small SmallTrait is-trait trait-small (i .trait-id))
 
-  found-message : (i : ImplDef) (m : MessageDef) → target-message schema i ≡ ok m → SmallMessage m
+  message-found : (i : ImplDef) → Ends Any (target-message schema i) SmallMessage
   unfolding target-message
-  found-message i m q = subst (AllOption SmallMessage) (found _ _ _ q) (then-any SmallMessage (number (i .target-type)) _ (row-small SmallMessage is-message message-small))
+  message-found i = ends.refuse-ends SmallMessage _ _ tt (then-any SmallMessage (number (i .target-type)) _ (row-small SmallMessage is-message message-small))
+
+  impl-projected : (i : ImplDef) → SmallImpl i → Ends Any (project-impl schema i) (λ p. All SmallFunction (p .1))
+  unfolding project-impl
+  impl-projected i h =
+      ends.then-ends (trait-found i) (λ t a. ends.then-ends (message-found i) (λ m b.
+      ends.then-ends (small-signatures schema small t i a (h .type-args)) (λ e c.
+      ends.then-ends (any-ends (no-repeat [] (i .functions))) (λ _ _. ends.then-ends (any-ends (no-stranger (map (λ s. s .name) (e .1)) (i .functions))) (λ _ _.
+      ends.then-ends (small-list i m h b (e .1) c) (λ fs p. ends.ok-ends _ (λ p. All SmallFunction (p .1)) p))))))
 
   pub small-functions : (row : ℕ) (i : ImplDef) (p : ℕ × List PortableFunction) → find-implementation schema row ≡ ok i → project-impl schema i ≡ ok p → All SmallFunction (p .1)
-  small-functions row i p is-i q =
-      let a = parts schema i p q in
-      let impl = found-impl row i is-i in
-      let ss = small-signatures schema small (a .trait) i (p .0, a .expected) (found-trait i (a .trait) (a .is-trait)) (impl .type-args) (a .is-expected) in
-      small-list i (a .message) impl (found-message i (a .message) (a .is-message)) (a .expected) (p .1) ss (a .projected)
+  small-functions row i p is-i q = impl-projected i (implementation-found row .gives i is-i) .gives p q

@@ -1,19 +1,21 @@
 -- Expected signatures of small words.
 use Prim.Native.Nat.{ℕ, _<_}
-use mathlib.Core.Path.{_≡_, refl, subst}
+use mathlib.Core.Path.{refl}
 use mathlib.Core.Bool.{Bool, true, false}
 use mathlib.Core.List.{List, [], _∷_}
 use mathlib.Core.Option.{Option, none, some}
+use lib.ListN.{length}
+use lib.Dec.{eqb}
 use Rattle.rules.specs.Syntax.{ResolvedType, TypeExpr, expr-run, Param, TraitReturn, TraitFnDef, TraitDef, ImplDef, CompiledSchema}
 use Rattle.rules.specs.Types.{VOID, same-type, normalize-return}
-use Rattle.rules.specs.Refusal.{ok}
 use Rattle.rules.specs.Substitute.{Counted, too-large, done, view, substitute-type}
 use Rattle.rules.specs.Signatures.{PortableSignature, resolve-params, resolve-return, resolve-signature, expected-function, expected-list, expected-functions}
 use Rattle.rules.specs.Output.{listed}
 use Rattle.laws.specs.Good.{All, AllOption}
 use Rattle.laws.specs.DefinitionRuns.{own, typed-words, trait-return-words, trait-function-words, trait-words}
 use Rattle.laws.specs.Counts.{Counts, done-counts, after-counts}
-use Rattle.promises.proofs.Results.{no-ok, steps, ensured, same-ok}
+use Rattle.laws_answers.specs.Ends as ends
+use Rattle.laws_answers.specs.Ends.{Ends, Any}
 use Rattle.promises.proofs.Small.{WORD, Small, small-left, small-right, small-listed}
 use Rattle.promises.proofs.SmallSchema.{SmallType, SmallParam, SmallSchema}
 use Rattle.promises.proofs.Substituted.{small-substituted}
@@ -63,25 +65,23 @@ module _ (schema : CompiledSchema) (small : SmallSchema schema) where
         after-counts (small-params (f .params) (small-listed (typed-words expr-run) (f .params) (small-left ps words (h .1)))) (λ v ts a.
         after-counts (small-return (f .return-type) (small-right ps words (h .1))) (λ w t b. done-counts _ _ _ (record { name = h .0; params = a; return-type = small-normal t b })))
 
-    small-expected : (f : ℕ) (o : Counted PortableSignature) (p : ℕ × PortableSignature) → Counts o (λ v s. SmallSignature s) → expected-function schema params f o ≡ ok p → SmallSignature (p .1)
+    small-expected : (f : ℕ) (o : Counted PortableSignature) → Counts o (λ v s. SmallSignature s) → Ends Any (expected-function schema params f o) (λ p. SmallSignature (p .1))
     unfolding expected-function
-    small-expected f too-large p h q = absurd (no-ok _ _ q)
-    small-expected f (done v s) p h q = subst (λ (p : ℕ × PortableSignature). SmallSignature (p .1)) (same-ok _ _ (ensured _ _ _ _ q .1)) (h .holds v s refl)
+    small-expected f too-large h = ends.err-ends _ tt
+    small-expected f (done v s) h = ends.ensure-ends _ _ _ tt (λ _. ends.ok-ends _ (λ p. SmallSignature (p .1)) (h .holds v s refl))
 
-    small-list : (fs : List TraitFnDef) (p : ℕ × List PortableSignature) → All (λ f. Small (trait-function-words f)) fs → expected-list schema params fs ≡ ok p → All SmallSignature (p .1)
+    small-list : (fs : List TraitFnDef) → All (λ f. Small (trait-function-words f)) fs → Ends Any (expected-list schema params fs) (λ p. All SmallSignature (p .1))
     unfolding expected-list
-    small-list [] p h q = subst (λ (p : ℕ × List PortableSignature). All SmallSignature (p .1)) (same-ok _ _ q) tt
-    small-list (f ∷ fs) p h q =
-        let s = steps _ _ _ q in
-        let r = steps _ _ _ (s .behind) in
-        let a = small-expected (f .name) _ (s .value) (small-signature f (h .0)) (s .before) in
-        let b = small-list fs (r .value) (h .1) (r .before) in
-        subst (λ (p : ℕ × List PortableSignature). All SmallSignature (p .1)) (same-ok _ _ (r .behind)) (a, b)
+    small-list [] h = ends.ok-ends _ (λ p. All SmallSignature (p .1)) tt
+    small-list (f ∷ fs) h =
+        ends.then-ends (small-expected (f .name) _ (small-signature f (h .0))) (λ s a. ends.then-ends (small-list fs (h .1)) (λ ss b.
+        ends.ok-ends _ (λ p. All SmallSignature (p .1)) (a, b)))
 
   -- what a trait asks for
-  pub small-signatures : (trait : TraitDef) (impl : ImplDef) (p : ℕ × List PortableSignature) → Small (trait-words trait) → All SmallType (impl .type-args)
-      → expected-functions schema trait impl ≡ ok p → All SmallSignature (p .1)
+  pub small-signatures : (trait : TraitDef) (impl : ImplDef) → Small (trait-words trait) → All SmallType (impl .type-args)
+      → Ends Any (expected-functions schema trait impl) (λ p. All SmallSignature (p .1))
   unfolding expected-functions trait-words
-  small-signatures trait impl p h types q =
+  small-signatures trait impl h types =
       let functions = small-listed trait-function-words (trait .functions) (small-right (listed own (trait .type-params)) (listed trait-function-words (trait .functions)) (h .1)) in
-      small-list (view (trait .type-params) (impl .type-args)) (small-view (trait .type-params) (impl .type-args) types) (trait .functions) p functions (ensured _ _ _ _ q .1)
+      ends.ensure-ends (eqb (length (trait .type-params)) (length (impl .type-args))) _ _ tt (λ _.
+      small-list (view (trait .type-params) (impl .type-args)) (small-view (trait .type-params) (impl .type-args) types) (trait .functions) functions)
