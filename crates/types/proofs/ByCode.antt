@@ -10,8 +10,6 @@ use borrow.Author.Tests.{ne-eqb}
 use Rattle.rules.specs.Words.{within}
 use Rattle.rules.specs.Syntax.{ResolvedType, run}
 use Rattle.rules.specs.Types.{is-numeric, is-signed-numeric, is-equality-type, is-float}
-use Rattle.rules.specs.Kinds.{type-kind}
-use Rattle.rules.specs.declared.kinds.TypeKind.{TypeKind}
 use Rattle.laws.specs.Good.{Good}
 use Rattle.held.specs.declared.types.HeldType.{HeldType}
 use Rattle.held.specs.Holds.{Holds}

@@ -1,6 +1,6 @@
 // Which literals a type takes. An i64 enters as its bits.
 ghost use mathlib.Core.Path.{_≡_};
-ghost use Prim.Native.Nat.{_-_, _^_};
+ghost use Prim.Native.Nat.{ℕ, _-_, _^_};
 ghost use lib.Dec.{ltb};
 ghost use lib.IntN.{pos};
 ghost use lib.Signed.{mag};
@@ -47,8 +47,9 @@ pub fn literal_uint_type(bits: u64, expected: MaybeType) -> MaybeType
     MaybeType::some(HeldType::plain(PrimitiveType::U64))
 }
 
-pub fn literal_float_type(bits: u64, expected: MaybeType) -> MaybeType
-    ensures { λ r. ⌜ EachMaybe expected (λ names o. MaybeHolds names r (literal-type 2 bits o)) ⌝ }
+// Of every float's bits.
+pub fn literal_float_type(expected: MaybeType) -> MaybeType
+    ensures { λ r. ⌜ EachMaybe expected (λ names o. (bits : ℕ) → MaybeHolds names r (literal-type 2 bits o)) ⌝ }
 {
     if expected.some {
         let ty = expected.ty;

@@ -1,6 +1,5 @@
 // Type tests.
 ghost use mathlib.Core.Path.{_≡_};
-ghost use mathlib.Core.Bool.{Bool};
 ghost use Rattle.rules.specs.Types.{is-numeric, is-signed-numeric, is-equality-type, is-float, contains-poison, normalize-return, same-return};
 ghost use Rattle.held.specs.Holds.{Each, EachMaybe, MaybeHolds};
 ghost use Rattle.types.specs.Tests.{Same};
