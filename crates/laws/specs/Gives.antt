@@ -1,15 +1,16 @@
 -- What a reader gives: the words that it took, and what holds of them and the value. A law for each combinator.
 use Prim.Native.Nat.{ℕ, _+_, _-_, _<_, _≤_}
 use mathlib.Core.Path.{_≡_, refl, sym, ap, subst, _∙_}
-use mathlib.Core.Bool.{Bool, true, false}
+use mathlib.Core.Bool.{Bool, true, false, cond}
 use mathlib.Core.List.{List, [], _∷_, _++_, append-assoc, append-nil}
 use mathlib.Core.Option.{Option, none, some}
 use native.Mathlib.Omega.{arith}
-use lib.ListN.{length, length-append}
+use lib.ListN.{length, drop, length-append}
 use lib.Dec.{ltb, leb}
 use borrow.Author.Tests.{ltb-true, leb-true}
 use Rattle.rules.specs.Reader.{Rest, rest-at, Reader, bound, _>>=_, give, fail, rule, here, first, word, below, from}
 use Rattle.rules.specs.ReadTypes.{sized}
+use Rattle.laws.specs.Clash.{clash}
 
 -- from p to q some words were taken, of which P holds with the value
 pub record Found {A : Type 0} (P : A → List ℕ → Type 0) (p : Rest) (a : A) (q : Rest) : Type 0 where
@@ -22,7 +23,7 @@ pub record Gives {A : Type 0} (r : Reader A) (P : A → List ℕ → Type 0) : T
   pub found : (p : Rest) (a : A) (q : Rest) → r p ≡ some (a, q) → Found P p a q
 
 no-some : {A : Type 0} (a : A) → none ≡ some a → ⊥
-no-some a e = let z : _≡_ {A = ℕ} 0 1 = cc in omega arith
+no-some a e = clash (cc)
 
 -- weaker is given too
 pub so : {A : Type 0} {r : Reader A} {P Q : A → List ℕ → Type 0} → Gives r P → ((a : A) (ws : List ℕ) → P a ws → Q a ws) → Gives r Q
@@ -68,11 +69,15 @@ then-gives {A} {B} {r} {f} g h = record {
       };
 }
 
--- a last reading, and what is made of it
+-- a last reading: behind it no word is read
+pub end-gives : {A B : Type 0} {r : Reader A} {f : A → Reader B} {P : A → List ℕ → Type 0} (Q : B → List ℕ → Type 0)
+    → Gives r P → ((a : A) (ws : List ℕ) → P a ws → Gives (f a) (λ b vs. (vs ≡ []) × Q b ws)) → Gives (r >>= f) Q
+end-gives Q g h =
+    then-gives g (λ a vs p. so (h a vs p) (λ b ws i. subst (λ (l : List ℕ). Q b l) (sym (append-nil vs) ∙ ap (λ (l : List ℕ). vs ++ l) (sym (i .0))) (i .1)))
+
 pub last-gives : {A B : Type 0} {r : Reader A} {f : A → B} {P : A → List ℕ → Type 0} (Q : B → List ℕ → Type 0)
     → Gives r P → ((a : A) (ws : List ℕ) → P a ws → Q (f a) ws) → Gives (r >>= λ x. give (f x)) Q
-last-gives {A} {B} {r} {f} Q g h =
-    then-gives g (λ a vs p. give-gives (f a) (λ b ws. Q b (vs ++ ws)) (subst (λ (l : List ℕ). Q (f a) l) (sym (append-nil vs)) (h a vs p)))
+last-gives {A} {B} {r} {f} Q g h = end-gives Q g (λ a ws p. give-gives (f a) _ (refl, h a ws p))
 
 word-first : (at : ℕ) (ws : List ℕ) (w : ℕ) (q : Rest) → first at ws ≡ some (w, q) → (ws ≡ w ∷ q .left) × (q .at ≡ at + 1)
 unfolding first
@@ -97,12 +102,22 @@ module _ {B : Type 0} {Q : B → List ℕ → Type 0} where
   rule-then true f h = record { found = λ p b q e. h refl .found p b q e }
   rule-then false f h = record { found = λ p b q e. absurd (no-some (b, q) e) }
 
+pub rule-gives : (c : Bool) → Gives (rule c) (λ u ws. Unit {0})
+unfolding rule give
+rule-gives true = give-gives tt _ tt
+rule-gives false = record { found = λ p b q e. absurd (no-some (b, q) e) }
+
 pub below-gives : {n : ℕ} → Gives (below n) (λ w ws. (ws ≡ w ∷ []) × (w < n))
 unfolding below
 below-gives {n} = word-then (λ w. rule-then (ltb w n) _ (λ e. give-gives w _ (refl, ltb-true w n e)))
 
 pub below-then : {B : Type 0} {n : ℕ} {f : ℕ → Reader B} {Q : B → List ℕ → Type 0} → ((w : ℕ) → w < n → Gives (f w) (λ b ws. Q b (w ∷ ws))) → Gives (below n >>= f) Q
 below-then {B} {n} {f} {Q} h = then-gives below-gives (λ w vs e. so (h w (e .1)) (λ b ws i. subst (λ (l : List ℕ). Q b (l ++ ws)) (sym (e .0)) i))
+
+-- either of two readings
+pub cond-gives : {A : Type 0} {P : A → List ℕ → Type 0} (c : Bool) {r s : Reader A} → (c ≡ true → Gives r P) → (c ≡ false → Gives s P) → Gives (cond c r s) P
+cond-gives true g h = g refl
+cond-gives false g h = h refl
 
 -- at most 64 words
 pub sized-gives : {A : Type 0} {r : Reader A} {P : A → List ℕ → Type 0} → Gives r P → Gives (sized r) (λ a ws. P a ws × (length ws ≤ 64))
@@ -122,15 +137,23 @@ sized-gives {A} {r} {P} g = record {
       };
 }
 
+-- words that stood in a list from a place on, of which P holds with the value
+pub record Stood {A : Type 0} (words : List ℕ) (start : ℕ) (P : A → List ℕ → Type 0) (a : A) : Type 0 where
+  pub taken : List ℕ
+  pub rest : List ℕ
+  pub there : drop start words ≡ taken ++ rest
+  pub holds : P a taken
+
 -- other words from a place on; the own words stay
 pub from-gives : {A : Type 0} {r : Reader A} {P : A → List ℕ → Type 0} (words : List ℕ) (start : ℕ)
-    → Gives r P → Gives (from words start r) (λ a ws. (ws ≡ []) × ((vs : List ℕ) × P a vs))
+    → Gives r P → Gives (from words start r) (λ a ws. (ws ≡ []) × Stood words start P a)
 unfolding from bound
 from-gives {A} {r} {P} words start g = record {
   found = λ p b q e.
       let s = both (r (rest-at words start)) (λ a _. some (a, p)) b q e in
       let x = g .found (rest-at words start) (s .value) (s .middle) (s .before) in
       let same : _≡_ {A = A × Rest} (s .value, p) (b, q) = cc (s .behind) in
-      subst (λ (y : A × Rest). Found (λ a ws. (ws ≡ []) × ((vs : List ℕ) × P a vs)) p (y .0) (y .1)) same
-      (record { words = []; left = refl; at = omega arith; holds = (refl, (x .words, x .holds)) });
+      let stood : Stood words start P (s .value) = record { taken = x .words; rest = s .middle .left; there = x .left; holds = x .holds } in
+      subst (λ (y : A × Rest). Found (λ a ws. (ws ≡ []) × Stood words start P a) p (y .0) (y .1)) same
+      (record { words = []; left = refl; at = omega arith; holds = (refl, stood) });
 }

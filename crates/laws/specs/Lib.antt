@@ -1,4 +1,6 @@
+pub mod Clash
 pub mod Good
+pub mod Each
 pub mod Reads
 pub mod Gives
 pub mod Exact
@@ -6,6 +8,18 @@ pub mod Codes
 pub mod Types
 pub mod Same
 pub mod TypeExprs
+pub mod Counts
 pub mod Visits
 pub mod Depth
 pub mod Widths
+pub mod Runs
+pub mod Expressions
+pub mod Statements
+pub mod DefinitionRuns
+pub mod Definitions
+pub mod GoodSchema
+pub mod Substitution
+pub mod Schema
+pub mod Typed
+pub mod TypedRuns
+pub mod MoreNames

@@ -1,8 +1,8 @@
 -- Words that a reader reads: from words followed by anything it gives a value, and stands behind them. A law for each combinator.
 use Prim.Native.Nat.{ℕ, _+_, _-_, _<_, _≤_}
-use mathlib.Core.Path.{_≡_, refl, ap, _∙_}
+use mathlib.Core.Path.{_≡_, refl, ap, subst, _∙_}
 use mathlib.Core.Bool.{Bool, true}
-use mathlib.Core.List.{List, [], _∷_, _++_, append-assoc}
+use mathlib.Core.List.{List, [], _∷_, _++_, append-assoc, append-nil}
 use mathlib.Core.Option.{Option, none, some}
 use native.Mathlib.Omega.{arith}
 use lib.ListN.{length, length-append}
@@ -35,10 +35,12 @@ then-reads {A} {B} {r} f {vs} {ws} {a} {b} p q = record {
       ∙ moved b rest (omega (arith, length-append vs ws));
 }
 
--- a last reading, and what is made of it
+-- a last reading: behind it no word is read
+pub end-reads : {A B : Type 0} {r : Reader A} (f : A → Reader B) {ws : List ℕ} {a : A} {b : B} → Reads r ws a → Reads (f a) [] b → Reads (r >>= f) ws b
+end-reads {A} {B} {r} f {ws} {a} {b} p q = subst (λ (l : List ℕ). Reads (r >>= f) l b) (append-nil ws) (then-reads f p q)
+
 pub last-reads : {A B : Type 0} {r : Reader A} (f : A → B) {ws : List ℕ} {a : A} → Reads r ws a → Reads (r >>= λ x. give (f x)) ws (f a)
-unfolding _>>=_ bound give
-last-reads {A} {B} {r} f {ws} {a} p = record { on = λ at rest. ap (λ (o : Option (A × Rest)). bound o (λ x. give (f x))) (p .on at rest) }
+last-reads f {ws} {a} p = end-reads _ p (give-reads (f a))
 
 pub word-reads : {B : Type 0} (f : ℕ → Reader B) {w : ℕ} {ws : List ℕ} {b : B} → Reads (f w) ws b → Reads (word >>= f) (w ∷ ws) b
 unfolding _>>=_ bound word first

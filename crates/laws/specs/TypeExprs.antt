@@ -10,7 +10,7 @@ use Rattle.rules.specs.Kinds.{type-kind}
 use Rattle.rules.specs.ReadTypes.{bits-inline, type-expr-node, type-expr-tree, type-expr}
 use Rattle.rules.specs.declared.kinds.TypeKind.{TypeKind}
 use Rattle.laws.specs.Good.{Good, IsLeaf, GoodExpr, depth-expr}
-use Rattle.laws.specs.Codes.{type-code, type-code-is}
+use Rattle.laws.specs.Codes.{TypeCode, type-code}
 use Rattle.laws.specs.Reads.{Reads, give-reads, then-reads, last-reads, word-reads, below-then}
 use Rattle.laws.specs.Gives as gives
 use Rattle.laws.specs.Gives.{Gives}
@@ -50,7 +50,8 @@ depth-expr-run names (TypeExpr.fixed low high t) g = omega (arith, depth-expr-ru
 depth-expr-run names (TypeExpr.two c t u) g = omega (arith, depth-expr-run names t (g .1), depth-expr-run names u (g .2), length-append (expr-run t) (expr-run u))
 
 module _ (names : ℕ) where
-  at-kind : (f : ℕ) {c : ℕ} (k : TypeKind) {ws : List ℕ} {e : TypeExpr} → type-kind c ≡ k → Reads (type-expr-node names (type-expr-tree names f) k c) ws e → Reads (type-expr-tree names (suc f)) (c ∷ ws) e
+  at-kind : (f : ℕ) {c : ℕ} (k : TypeKind) {ws : List ℕ} {e : TypeExpr} → type-kind c ≡ k → Reads (type-expr-node names (type-expr-tree names f) k c) ws e
+      → Reads (type-expr-tree names (suc f)) (c ∷ ws) e
   unfolding type-expr-tree
   at-kind f {c} k {ws} {e} q h = word-reads _ (subst (λ (k : TypeKind). Reads (type-expr-node names (type-expr-tree names f) k c) ws e) (sym q) h)
 
@@ -85,25 +86,25 @@ module _ (names : ℕ) where
       at-kind f TypeKind.Two (g .0) (then-reads _ (expr-tree-reads t f (g .1) (omega arith)) (last-reads _ (expr-tree-reads u f (g .2) (omega arith))))
 
   -- what a node gives, with its code in front
-  node-gives : (f : ℕ) (part : Reader TypeExpr) → Gives part (Run expr-run (DeepExpr names f)) → (c : ℕ) (k : TypeKind) → type-kind c ≡ k → type-code k c ≡ c
+  node-gives : (f : ℕ) (part : Reader TypeExpr) → Gives part (Run expr-run (DeepExpr names f)) → (c : ℕ) (k : TypeKind) → type-kind c ≡ k → TypeCode k c
       → Gives (type-expr-node names part k c) (λ e ws. Run expr-run (DeepExpr names (suc f)) e (c ∷ ws))
   unfolding expr-run run type-expr-node bits-inline
   node-gives f part ih c TypeKind.Plain k q = gives.give-gives _ _ (record { is = refl; good = record { good = (tt, k); deep = omega arith } })
   node-gives f part ih c TypeKind.Sub k q = gives.last-gives _ sub-gives (λ t ws h.
       subst (λ (t : ResolvedType). Run expr-run (DeepExpr names (suc f)) (TypeExpr.leaf t) (c ∷ ws)) (sym (h .2))
-      (record { is = ap₂ _∷_ (sym q) (h .3); good = record { good = (tt, (h .4, h .5, h .6)); deep = omega arith } }))
+      (record { is = ap₂ _∷_ q (h .3); good = record { good = (tt, (h .4, h .5, h .6)); deep = omega arith } }))
   node-gives f part ih c TypeKind.Bits k q = gives.last-gives _ (gives.last-gives (λ t ws. Run expr-run (DeepExpr names (suc f)) (TypeExpr.leaf t) (c ∷ ws)) (bits-exact names .gives) (λ ns ws h.
-      record { is = ap₂ _∷_ (sym q) (h .is); good = record { good = (tt, h .good); deep = omega arith } })) (λ t ws h. h)
+      record { is = ap₂ _∷_ q (h .is); good = record { good = (tt, h .good); deep = omega arith } })) (λ t ws h. h)
   node-gives f part ih c TypeKind.Named k q = gives.below-then (λ x l. gives.give-gives _ _
-      (record { is = ap (λ (w : ℕ). w ∷ x ∷ []) (sym q); good = record { good = l; deep = omega arith } }))
+      (record { is = ap (λ (w : ℕ). w ∷ x ∷ []) q; good = record { good = l; deep = omega arith } }))
   node-gives f part ih c TypeKind.Qualified k q = gives.below-then (λ s l. gives.below-then (λ x m. gives.give-gives _ _
-      (record { is = ap (λ (w : ℕ). w ∷ s ∷ x ∷ []) (sym q); good = record { good = (l, m); deep = omega arith } })))
+      (record { is = ap (λ (w : ℕ). w ∷ s ∷ x ∷ []) q; good = record { good = (l, m); deep = omega arith } })))
   node-gives f part ih c TypeKind.Generic k q = gives.below-then (λ x l. gives.last-gives _ ih (λ a ws h.
-      record { is = ap₂ _∷_ (sym q) (ap (λ (l : List ℕ). x ∷ l) (h .is)); good = record { good = (l, h .good .good); deep = omega (arith, h .good .deep) } }))
+      record { is = ap₂ _∷_ q (ap (λ (l : List ℕ). x ∷ l) (h .is)); good = record { good = (l, h .good .good); deep = omega (arith, h .good .deep) } }))
   node-gives f part ih c TypeKind.One k q = gives.last-gives _ ih (λ t ws h.
       record { is = ap (λ (l : List ℕ). c ∷ l) (h .is); good = record { good = (k, h .good .good); deep = omega (arith, h .good .deep) } })
   node-gives f part ih c TypeKind.Fixed k q = gives.then-gives wide-gives (λ n vs e. gives.last-gives _ ih (λ t ws h.
-      record { is = ap₂ _∷_ (sym q) (ap₂ _++_ e (h .is)); good = record { good = h .good .good; deep = omega (arith, h .good .deep) } }))
+      record { is = ap₂ _∷_ q (ap₂ _++_ e (h .is)); good = record { good = h .good .good; deep = omega (arith, h .good .deep) } }))
   node-gives f part ih c TypeKind.Two k q = gives.then-gives ih (λ t vs h. gives.last-gives _ ih (λ u ws i.
       record { is = ap (λ (l : List ℕ). c ∷ l) (ap₂ _++_ (h .is) (i .is)); good = record { good = (k, h .good .good, i .good .good); deep = omega (arith, h .good .deep, i .good .deep) } }))
   node-gives f part ih c TypeKind.Unknown k q = gives.fail-gives
@@ -111,7 +112,7 @@ module _ (names : ℕ) where
   pub expr-tree-gives : (f : ℕ) → Gives (type-expr-tree names f) (Run expr-run (DeepExpr names f))
   unfolding type-expr-tree
   expr-tree-gives zero = gives.fail-gives
-  expr-tree-gives (suc f) = gives.word-then (λ c. node-gives f (type-expr-tree names f) (expr-tree-gives f) c (type-kind c) refl (type-code-is c))
+  expr-tree-gives (suc f) = gives.word-then (λ c. node-gives f (type-expr-tree names f) (expr-tree-gives f) c (type-kind c) refl (type-code c))
 
   pub expr-tree-exact : (f : ℕ) → Exact (type-expr-tree names f) expr-run (DeepExpr names f)
   expr-tree-exact f = record { reads = λ e g. expr-tree-reads e f (g .good) (g .deep); gives = expr-tree-gives f }

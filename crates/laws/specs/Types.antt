@@ -14,8 +14,9 @@ use Rattle.rules.specs.Kinds.{type-kind}
 use Rattle.rules.specs.ReadTypes.{sub-byte, wide, bits-inline, type-node, type-tree, resolved-type}
 use Rattle.rules.specs.Output.{each, listed}
 use Rattle.rules.specs.declared.kinds.TypeKind.{TypeKind}
+use Rattle.laws.specs.Clash.{clash}
 use Rattle.laws.specs.Good.{Below, Good, depth}
-use Rattle.laws.specs.Codes.{type-code, type-code-is}
+use Rattle.laws.specs.Codes.{TypeCode, type-code}
 use Rattle.laws.specs.Reads.{Reads, give-reads, then-reads, last-reads, word-reads, rule-reads, below-then}
 use Rattle.laws.specs.Gives as gives
 use Rattle.laws.specs.Gives.{Gives}
@@ -43,13 +44,13 @@ depth-run (ResolvedType.one c t) = omega (arith, depth-run t)
 depth-run (ResolvedType.fixed low high t) = omega (arith, depth-run t)
 depth-run (ResolvedType.two c t u) = omega (arith, depth-run t, depth-run u, length-append (run t) (run u))
 
-within-true : (a b n : ℕ) → within a b n ≡ true → (a ≤ n) × (n ≤ b)
+pub within-true : (a b n : ℕ) → within a b n ≡ true → (a ≤ n) × (n ≤ b)
 within-true a b n e = go (leb a n) (leb n b) refl refl e
   where
     go : (x y : Bool) → leb a n ≡ x → leb n b ≡ y → (x && y) ≡ true → (a ≤ n) × (n ≤ b)
     go true true p q e = (leb-true a n p, leb-true n b q)
-    go true false p q e = absurd (let z : _≡_ {A = ℕ} 0 1 = cc in omega arith)
-    go false y p q e = absurd (let z : _≡_ {A = ℕ} 0 1 = cc in omega arith)
+    go true false p q e = clash (cc)
+    go false y p q e = clash (cc)
 
 -- names are their own words
 each-word : (ns : List ℕ) → each (λ n. n ∷ []) ns ≡ ns
@@ -86,7 +87,8 @@ module _ (names : ℕ) where
       }
 
   -- a node behind its code, by the kind of the code
-  at-kind : (f : ℕ) {c : ℕ} (k : TypeKind) {ws : List ℕ} {t : ResolvedType} → type-kind c ≡ k → Reads (type-node names (type-tree names f) k c) ws t → Reads (type-tree names (suc f)) (c ∷ ws) t
+  at-kind : (f : ℕ) {c : ℕ} (k : TypeKind) {ws : List ℕ} {t : ResolvedType} → type-kind c ≡ k → Reads (type-node names (type-tree names f) k c) ws t
+      → Reads (type-tree names (suc f)) (c ∷ ws) t
   unfolding type-tree
   at-kind f {c} k {ws} {t} e h = word-reads _ (subst (λ (k : TypeKind). Reads (type-node names (type-tree names f) k c) ws t) (sym e) h)
 
@@ -109,23 +111,23 @@ module _ (names : ℕ) where
       at-kind f TypeKind.Two (g .0) (then-reads _ (tree-reads t f (g .1) (omega arith)) (last-reads _ (tree-reads u f (g .2) (omega arith))))
 
   -- what a node gives, with its code in front
-  node-gives : (f : ℕ) (part : Reader ResolvedType) → Gives part (Run run (Deep names f)) → (c : ℕ) (k : TypeKind) → type-kind c ≡ k → type-code k c ≡ c
+  node-gives : (f : ℕ) (part : Reader ResolvedType) → Gives part (Run run (Deep names f)) → (c : ℕ) (k : TypeKind) → type-kind c ≡ k → TypeCode k c
       → Gives (type-node names part k c) (λ t ws. Run run (Deep names (suc f)) t (c ∷ ws))
   unfolding run type-node bits-inline
   node-gives f part ih c TypeKind.Plain k q = gives.give-gives _ _ (record { is = refl; good = record { good = k; deep = omega arith } })
   node-gives f part ih c TypeKind.Sub k q = gives.so sub-gives (λ t ws h.
       subst (λ (t : ResolvedType). Run run (Deep names (suc f)) t (c ∷ ws)) (sym (h .2))
-      (record { is = ap₂ _∷_ (sym q) (h .3); good = record { good = (h .4, h .5, h .6); deep = omega arith } }))
+      (record { is = ap₂ _∷_ q (h .3); good = record { good = (h .4, h .5, h .6); deep = omega arith } }))
   node-gives f part ih c TypeKind.Bits k q = gives.last-gives _ (bits-exact .gives) (λ ns ws h.
-      record { is = ap₂ _∷_ (sym q) (h .is); good = record { good = h .good; deep = omega arith } })
+      record { is = ap₂ _∷_ q (h .is); good = record { good = h .good; deep = omega arith } })
   node-gives f part ih c TypeKind.Named k q = gives.word-then (λ n. gives.give-gives _ _
-      (record { is = ap (λ (x : ℕ). x ∷ n ∷ []) (sym q); good = record { good = tt; deep = omega arith } }))
+      (record { is = ap (λ (x : ℕ). x ∷ n ∷ []) q; good = record { good = tt; deep = omega arith } }))
   node-gives f part ih c TypeKind.Qualified k q = gives.fail-gives
   node-gives f part ih c TypeKind.Generic k q = gives.fail-gives
   node-gives f part ih c TypeKind.One k q = gives.last-gives _ ih (λ t ws h.
       record { is = ap (λ (l : List ℕ). c ∷ l) (h .is); good = record { good = (k, h .good .good); deep = omega (arith, h .good .deep) } })
   node-gives f part ih c TypeKind.Fixed k q = gives.then-gives wide-gives (λ n vs e. gives.last-gives _ ih (λ t ws h.
-      record { is = ap₂ _∷_ (sym q) (ap₂ _++_ e (h .is)); good = record { good = h .good .good; deep = omega (arith, h .good .deep) } }))
+      record { is = ap₂ _∷_ q (ap₂ _++_ e (h .is)); good = record { good = h .good .good; deep = omega (arith, h .good .deep) } }))
   node-gives f part ih c TypeKind.Two k q = gives.then-gives ih (λ t vs h. gives.last-gives _ ih (λ u ws i.
       record { is = ap (λ (l : List ℕ). c ∷ l) (ap₂ _++_ (h .is) (i .is)); good = record { good = (k, h .good .good, i .good .good); deep = omega (arith, h .good .deep, i .good .deep) } }))
   node-gives f part ih c TypeKind.Unknown k q = gives.fail-gives
@@ -133,7 +135,7 @@ module _ (names : ℕ) where
   pub tree-gives : (f : ℕ) → Gives (type-tree names f) (Run run (Deep names f))
   unfolding type-tree
   tree-gives zero = gives.fail-gives
-  tree-gives (suc f) = gives.word-then (λ c. node-gives f (type-tree names f) (tree-gives f) c (type-kind c) refl (type-code-is c))
+  tree-gives (suc f) = gives.word-then (λ c. node-gives f (type-tree names f) (tree-gives f) c (type-kind c) refl (type-code c))
 
   pub tree-exact : (f : ℕ) → Exact (type-tree names f) run (Deep names f)
   tree-exact f = record { reads = λ t g. tree-reads t f (g .good) (g .deep); gives = tree-gives f }
