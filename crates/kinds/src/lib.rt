@@ -1,4 +1,4 @@
-// The kind of a type's code.
+// The kind of a type's code: each code of the rules belongs to one.
 ghost use mathlib.Core.Path.{_≡_};
 ghost use Rattle.rules.specs.Kinds.{type-kind};
 use rules::kinds::TypeKind;
