@@ -13,6 +13,12 @@ use held::types::HeldType;
 use held::types::MaybeType;
 use rules::ids::PrimitiveType;
 
+// 2 ^ 63: from here on the bits are a negative integer's.
+const NEGATIVE: u64 = 9223372036854775808;
+
+// 2 ^ 64 - 1, the bits of -1.
+const LAST: u64 = 18446744073709551615;
+
 // The integers that a type takes: those of a signed or an unsigned width, all, or none.
 pub enum Range {
     Signed(u32),
@@ -108,7 +114,7 @@ pub fn int_in(bits: u64, taken: Range) -> bool
     match taken {
         Range::Signed(width) => below_power(magnitude(bits), shift(width)),
         Range::Unsigned(width) => {
-            if bits < 9223372036854775808 {
+            if bits < NEGATIVE {
                 return below_power(bits, width);
             }
             false
@@ -134,10 +140,10 @@ pub fn uint_in(bits: u64, taken: Range) -> bool
 pub fn magnitude(bits: u64) -> u64
     ensures { λ r. ⌜ r ≡ mag (int-of bits) ⌝ }
 {
-    if bits < 9223372036854775808 {
+    if bits < NEGATIVE {
         bits
     } else {
-        18446744073709551615 - bits
+        LAST - bits
     }
 }
 
