@@ -140,11 +140,7 @@ pub fn uint_in(bits: u64, taken: Range) -> bool
 pub fn magnitude(bits: u64) -> u64
     ensures { λ r. ⌜ r ≡ mag (int-of bits) ⌝ }
 {
-    if bits < NEGATIVE {
-        bits
-    } else {
-        LAST - bits
-    }
+    if bits < NEGATIVE { bits } else { LAST - bits }
 }
 
 // A signed width without its sign.
