@@ -1,5 +1,4 @@
--- Laws of codes and of held types.
-pub mod Codes
+-- Laws of held types.
 pub mod Runs
 pub mod Trees
 pub mod Bounded

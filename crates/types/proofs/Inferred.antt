@@ -1,13 +1,13 @@
 -- A literal's type as the typing of expressions has it. Assumes nothing.
 use Prim.Native.Nat.{ℕ}
-use mathlib.Core.Path.{_≡_, refl, ap, _∙_}
+use mathlib.Core.Path.{_≡_, refl, ap}
 use mathlib.Core.Bool.{Bool, true, false}
 use mathlib.Core.Option.{Option, none, some}
-use native.Mathlib.Omega.{arith}
 use Rattle.rules.specs.Syntax.{ResolvedType}
 use Rattle.rules.specs.Fits.{literal-fits, literal-own}
 use Rattle.rules.specs.Refusal.{Result, ok}
 use Rattle.rules.specs.Infer.{FunctionContext, infer-literal, type-mismatch}
+use Rattle.laws.specs.Clash.{clash}
 use Rattle.types.specs.Literals.{literal-type}
 
 module _ (context : FunctionContext) (c n : ℕ) where
@@ -19,7 +19,7 @@ module _ (context : FunctionContext) (c n : ℕ) where
       go : (b : Bool) → _≡_ {A = Option ResolvedType} (elim b as (λ _. Option ResolvedType) [ true ↦ some u | false ↦ none ]) (some t)
           → (elim b as (λ _. Result ResolvedType) [ true ↦ ok u | false ↦ type-mismatch context {A = ResolvedType} c u (literal-own c) ]) ≡ ok t
       go true e = let q : u ≡ t = cc in ap ok q
-      go false e = absurd (let z : _≡_ {A = ℕ} 0 1 = cc in omega arith)
+      go false e = clash (cc)
 
   pub literal-refused : (u : ResolvedType) → literal-type c n (some u) ≡ none → infer-literal context c n (some u) ≡ type-mismatch context {A = ResolvedType} c u (literal-own c)
   unfolding literal-type infer-literal
@@ -27,5 +27,5 @@ module _ (context : FunctionContext) (c n : ℕ) where
     where
       go : (b : Bool) → _≡_ {A = Option ResolvedType} (elim b as (λ _. Option ResolvedType) [ true ↦ some u | false ↦ none ]) none
           → (elim b as (λ _. Result ResolvedType) [ true ↦ ok u | false ↦ type-mismatch context {A = ResolvedType} c u (literal-own c) ]) ≡ type-mismatch context {A = ResolvedType} c u (literal-own c)
-      go true e = absurd (let z : _≡_ {A = ℕ} 0 1 = cc in omega arith)
+      go true e = clash (cc)
       go false e = refl

@@ -11,9 +11,9 @@ use Rattle.rules.specs.Words.{same}
 use Rattle.rules.specs.Types.{VOID, same-type, normalize-return, return-words, same-return}
 use Rattle.held.specs.declared.types.MaybeType.{MaybeType}
 use Rattle.held.specs.Holds.{Holds, MaybeHolds}
-use Rattle.held.proofs.Codes.{primitive-in}
+use Rattle.kinds.proofs.Codes.{primitive-in}
 use Rattle.types.specs.Tests.{Same}
-use Rattle.types.proofs.Heads.{word, word-of, held-word, same-plain}
+use Rattle.types.proofs.Heads.{word, held-word, same-plain}
 
 -- a test that a held type is Void, by its code
 void-code : {names : ℕ} (m : MaybeType) (t : ResolvedType) → Holds names (m .ty) t → same-type t VOID ≡ eqb (word (m .ty) 0) 13

@@ -1,6 +1,6 @@
 // Which literals a type takes. An i64 enters as its bits.
 ghost use mathlib.Core.Path.{_≡_};
-ghost use Prim.Native.Nat.{_-_, _^_};
+ghost use Prim.Native.Nat.{ℕ, _-_, _^_};
 ghost use lib.Dec.{ltb};
 ghost use lib.IntN.{pos};
 ghost use lib.Signed.{mag};
@@ -12,6 +12,12 @@ use crate::tests::is_float;
 use held::types::HeldType;
 use held::types::MaybeType;
 use rules::ids::PrimitiveType;
+
+// 2 ^ 63: from here on the bits are a negative integer's.
+const NEGATIVE: u64 = 9223372036854775808;
+
+// 2 ^ 64 - 1, the bits of -1.
+const LAST: u64 = 18446744073709551615;
 
 // The integers that a type takes: those of a signed or an unsigned width, all, or none.
 pub enum Range {
@@ -47,8 +53,9 @@ pub fn literal_uint_type(bits: u64, expected: MaybeType) -> MaybeType
     MaybeType::some(HeldType::plain(PrimitiveType::U64))
 }
 
-pub fn literal_float_type(bits: u64, expected: MaybeType) -> MaybeType
-    ensures { λ r. ⌜ EachMaybe expected (λ names o. MaybeHolds names r (literal-type 2 bits o)) ⌝ }
+// Of every float's bits.
+pub fn literal_float_type(expected: MaybeType) -> MaybeType
+    ensures { λ r. ⌜ EachMaybe expected (λ names o. (bits : ℕ) → MaybeHolds names r (literal-type 2 bits o)) ⌝ }
 {
     if expected.some {
         let ty = expected.ty;
@@ -107,7 +114,7 @@ pub fn int_in(bits: u64, taken: Range) -> bool
     match taken {
         Range::Signed(width) => below_power(magnitude(bits), shift(width)),
         Range::Unsigned(width) => {
-            if bits < 9223372036854775808 {
+            if bits < NEGATIVE {
                 return below_power(bits, width);
             }
             false
@@ -133,11 +140,7 @@ pub fn uint_in(bits: u64, taken: Range) -> bool
 pub fn magnitude(bits: u64) -> u64
     ensures { λ r. ⌜ r ≡ mag (int-of bits) ⌝ }
 {
-    if bits < 9223372036854775808 {
-        bits
-    } else {
-        18446744073709551615 - bits
-    }
+    if bits < NEGATIVE { bits } else { LAST - bits }
 }
 
 // A signed width without its sign.

@@ -1,13 +1,12 @@
 // Type tests.
 ghost use mathlib.Core.Path.{_≡_};
-ghost use mathlib.Core.Bool.{Bool};
 ghost use Rattle.rules.specs.Types.{is-numeric, is-signed-numeric, is-equality-type, is-float, contains-poison, normalize-return, same-return};
 ghost use Rattle.held.specs.Holds.{Each, EachMaybe, MaybeHolds};
 ghost use Rattle.types.specs.Tests.{Same};
 ghost use Rattle.types.specs.Headers.{header-of, poison-words};
-use held::kinds::type_kind;
 use held::types::HeldType;
 use held::types::MaybeType;
+use kinds::type_kind;
 use rules::ids::PrimitiveType;
 use rules::ids::TypeId;
 use rules::kinds::TypeKind;
