@@ -1,7 +1,7 @@
 -- From what the code saw to what the reader says, one law for each step of a reader.
 use Prim.Native.Nat.{ℕ, zero, suc, _+_, _-_, _<_, _≤_}
 use mathlib.Core.Path.{_≡_, refl, sym, ap, subst, _∙_}
-use mathlib.Core.Bool.{Bool, true, false}
+use mathlib.Core.Bool.{Bool, true, false, cond}
 use mathlib.Core.List.{List}
 use mathlib.Core.Option.{Option, none, some}
 use native.Mathlib.Omega.{arith}
@@ -80,6 +80,14 @@ give-then a f h = record { is = h .is }
 pub assoc : {A B C : Type 0} (r : Reader A) (f : A → Reader B) (g : B → Reader C) {ws : List ℕ} {at : ℕ} {d : Checked} → Says (r >>= λ a. f a >>= g) ws at d → Says (r >>= f >>= g) ws at d
 unfolding _>>=_
 assoc {C = C} r f g {ws} {at} {d} h = record { is = subst (λ (o : Option (C × Rest)). Agrees ws o d) (assoc-o (r (rest-at ws at)) f g) (h .is) }
+
+-- either of two readings
+module _ {A : Type 0} (r s : Reader A) {b : Bool} {ws : List ℕ} {at : ℕ} {c : Checked} where
+  pub either-first : b ≡ true → Says r ws at c → Says (cond b r s) ws at c
+  either-first e h = rw e h
+
+  pub either-second : b ≡ false → Says s ws at c → Says (cond b r s) ws at c
+  either-second e h = rw e h
 
 -- a word by itself
 module _ {image : List ℕ} {s : Section} (lies : Lies image s) {at : ℕ} where
