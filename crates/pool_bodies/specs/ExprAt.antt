@@ -11,8 +11,8 @@ use Rattle.rules.specs.ReadBodies.{exprs, expr-node, expr-tree, expression}
 use Rattle.rules.specs.declared.kinds.ExprKind.{ExprKind}
 use Rattle.laws.specs.Runs.{count, expr-words, Nested}
 use Rattle.laws.specs.Expressions.{expression-exact}
-use Rattle.reading.specs.Gives.{Gives, Word, then, given, failed, so-then, both, word-then, below-then}
-use Rattle.reading.specs.Stands.{Stands, exact-gives}
+use Rattle.reading.specs.Gives.{Gives, Word, then, given, failed, word-then, below-then}
+use Rattle.reading.specs.Stands.{Held, held-gives}
 use Rattle.pool_types.specs.TypeAt.{Wide-at, wide-then}
 
 -- the word at `at` is an expression's code of kind k
@@ -46,11 +46,9 @@ module _ (names strings : ℕ) (ws : List ℕ) where
     Exprs-at Exprs.nil at n = at ≡ n
     Exprs-at (Exprs.cons e es) at n = (m : ℕ) × Expr-at e at m × Exprs-at es m n
 
-  -- an expression as the pool holds it: its parts, its words, and that it is good and nested at most 32 deep
-  pub record Expr-stands (e : Expr) (at n : ℕ) : Type 0 where
-    pub parts : Expr-at e at n
-    pub words-at : Stands ws (expr-words e) at n
-    pub nested : Nested names strings 32 e
+  -- an expression as the pool holds it
+  abbrev pub Expr-stands : Expr → ℕ → ℕ → Type 0
+  Expr-stands = Held Expr-at expr-words (Nested names strings 32) ws
 
 -- the kind of an expression's code
 abbrev pub value-shape : Expr → ExprKind
@@ -112,4 +110,4 @@ module _ (names strings : ℕ) (ws : List ℕ) where
 
   pub expression-gives : (at : ℕ) → Gives (expression names strings) ws at (λ e n. Expr-stands names strings ws e at n)
   unfolding expression
-  expression-gives at = so-then (both (expr-tree-gives 32 at) (exact-gives (expression-exact names strings) ws at)) (λ e n h. record { parts = h .0; words-at = h .1 .0; nested = h .1 .1 })
+  expression-gives at = held-gives (Expr-at names strings ws) (expression-exact names strings) ws at (expr-tree-gives 32 at)

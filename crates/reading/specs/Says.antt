@@ -185,6 +185,10 @@ pub got-so : {A : Type 0} {r : Reader A} {ws : List ℕ} {at : ℕ} {P : A → �
     → (a : A) × (r (rest-at ws at) ≡ some (a, rest-at ws (c .next))) × P a (c .next)
 got-so g s y = let x = got s y in (x .0, x .1, gives.of g (x .1) .1)
 
+-- the word that was found under a limit
+pub below-value : (limit : ℕ) {ws : List ℕ} {at : ℕ} {c : Checked} → Says (below limit) ws at c → c .ok ≡ true → getD ws at 0 < limit
+below-value limit {ws} {at} s y = let x = got-so (gives.below-gives limit ws at) s y in omega (arith, x .2 .0 .is, x .2 .1)
+
 -- the code refuses only where nothing is given
 none-o : {A : Type 0} (ws : List ℕ) (o : Option (A × Rest)) (c : Checked) → Agrees ws o c → c .ok ≡ false → o ≡ none
 none-o ws none c e n = refl
