@@ -1,0 +1,3 @@
+pub mod TypeAt
+pub mod TypeExprAt
+pub mod ParamAt

@@ -75,6 +75,14 @@ so-then-y ws Q P (some p) y h = (y .0, h (p .0) (p .1 .at) (y .1))
 pub so-then : {A : Type 0} {r : Reader A} {ws : List ℕ} {at : ℕ} {Q P : A → ℕ → Type 0} → Gives r ws at Q → ((a : A) (m : ℕ) → Q a m → P a m) → Gives r ws at P
 so-then {A} {r} {ws} {at} {Q} {P} q h = record { so = so-then-y ws Q P (r (rest-at ws at)) (q .so) h }
 
+both-y : {A : Type 0} (ws : List ℕ) (P Q : A → ℕ → Type 0) (o : Option (A × Rest)) → Yields ws P o → Yields ws Q o → Yields ws (λ a n. P a n × Q a n) o
+both-y ws P Q none y z = tt
+both-y ws P Q (some p) y z = (y .0, (y .1, z .1))
+
+-- two things of the same reading
+pub both : {A : Type 0} {r : Reader A} {ws : List ℕ} {at : ℕ} {P Q : A → ℕ → Type 0} → Gives r ws at P → Gives r ws at Q → Gives r ws at (λ a n. P a n × Q a n)
+both {A} {r} {ws} {at} {P} {Q} g h = record { so = both-y ws P Q (r (rest-at ws at)) (g .so) (h .so) }
+
 -- a reading in two steps
 pub assoc : {A B C : Type 0} (r : Reader A) (f : A → Reader B) (g : B → Reader C) {ws : List ℕ} {at : ℕ} {P : C → ℕ → Type 0}
     → Gives (r >>= λ a. f a >>= g) ws at P → Gives (r >>= f >>= g) ws at P

@@ -4,3 +4,4 @@ pub mod Steps
 pub mod Gives
 pub mod Says
 pub mod Loops
+pub mod Stands

@@ -1,0 +1,73 @@
+-- Which type expression stands where among some words.
+use Prim.Native.Nat.{ℕ, zero, suc, _+_, _<_}
+use mathlib.Core.Path.{_≡_, refl, ap}
+use mathlib.Core.List.{List}
+use lib.ListN.{getD}
+use Rattle.rules.specs.Syntax.{TypeExpr, expr-run}
+use Rattle.rules.specs.Kinds.{type-kind}
+use Rattle.rules.specs.ReadTypes.{type-expr-node, type-expr-tree, type-expr}
+use Rattle.rules.specs.declared.kinds.TypeKind.{TypeKind}
+use Rattle.laws.specs.TypeExprs.{StoredExpr, type-expr-exact}
+use Rattle.reading.specs.Gives.{Gives, Word, then, given, failed, so-then, both, word-then, below-then, sized-gives}
+use Rattle.reading.specs.Stands.{Stands, exact-gives}
+use Rattle.pool_types.specs.TypeAt.{Node, Wide-at, wide-then, Type-at, shape, shape-at, sub-gives, bits-gives}
+
+-- over the number of name rows and the words
+module _ (names : ℕ) (ws : List ℕ) where
+  abbrev pub Type-expr-at : TypeExpr → ℕ → ℕ → Type 0
+  Type-expr-at (TypeExpr.leaf t) at n = Type-at names ws t at n
+  Type-expr-at (TypeExpr.named x) at n = Node ws at TypeKind.Named × Word ws (at + 1) x × (x < names) × (n ≡ at + 1 + 1)
+  Type-expr-at (TypeExpr.qualified s x) at n = Node ws at TypeKind.Qualified × Word ws (at + 1) s × (s < names) × Word ws (at + 1 + 1) x × (x < names) × (n ≡ at + 1 + 1 + 1)
+  Type-expr-at (TypeExpr.generic x a) at n = Node ws at TypeKind.Generic × Word ws (at + 1) x × (x < names) × Type-expr-at a (at + 1 + 1) n
+  Type-expr-at (TypeExpr.one c t) at n = Node ws at TypeKind.One × (getD ws at 0 ≡ c) × Type-expr-at t (at + 1) n
+  Type-expr-at (TypeExpr.fixed low high t) at n = Node ws at TypeKind.Fixed × Wide-at ws low high (at + 1) × Type-expr-at t (at + 1 + 1 + 1) n
+  Type-expr-at (TypeExpr.two c t u) at n = Node ws at TypeKind.Two × (getD ws at 0 ≡ c) × (m : ℕ) × Type-expr-at t (at + 1) m × Type-expr-at u m n
+
+  -- a type expression as the pool holds it
+  pub record Type-expr-stands (e : TypeExpr) (at n : ℕ) : Type 0 where
+    pub parts : Type-expr-at e at n
+    pub run-at : Stands ws (expr-run e) at n
+    pub stored : StoredExpr names e
+
+-- the kind of a type expression's code
+abbrev pub expr-shape : TypeExpr → TypeKind
+expr-shape (TypeExpr.leaf t) = shape t
+expr-shape (TypeExpr.named x) = TypeKind.Named
+expr-shape (TypeExpr.qualified s x) = TypeKind.Qualified
+expr-shape (TypeExpr.generic x a) = TypeKind.Generic
+expr-shape (TypeExpr.one c t) = TypeKind.One
+expr-shape (TypeExpr.fixed low high t) = TypeKind.Fixed
+expr-shape (TypeExpr.two c t u) = TypeKind.Two
+
+module _ (names : ℕ) (ws : List ℕ) where
+  pub expr-shape-at : (e : TypeExpr) (at n : ℕ) → Type-expr-at names ws e at n → Node ws at (expr-shape e)
+  expr-shape-at (TypeExpr.leaf t) at n h = shape-at names ws t at n h
+  expr-shape-at (TypeExpr.named x) at n h = h .0
+  expr-shape-at (TypeExpr.qualified s x) at n h = h .0
+  expr-shape-at (TypeExpr.generic x a) at n h = h .0
+  expr-shape-at (TypeExpr.one c t) at n h = h .0
+  expr-shape-at (TypeExpr.fixed low high t) at n h = h .0
+  expr-shape-at (TypeExpr.two c t u) at n h = h .0
+
+  module _ (d : ℕ) (part : (at : ℕ) → Gives (type-expr-tree names d) ws at (λ e n. Type-expr-at names ws e at n)) (at : ℕ) where
+    node-gives : (k : TypeKind) (c : ℕ) → Node ws at k → getD ws at 0 ≡ c → Gives (type-expr-node names (type-expr-tree names d) k c) ws (at + 1) (λ e n. Type-expr-at names ws e at n)
+    unfolding type-expr-node
+    node-gives TypeKind.Plain c i e = given _ (i, e, refl)
+    node-gives TypeKind.Sub c i e = then (sub-gives names ws at i) (λ t n a. given _ a)
+    node-gives TypeKind.Bits c i e = then (bits-gives names ws at i) (λ t n a. given _ a)
+    node-gives TypeKind.Named c i e = below-then (λ x j l. given _ (i, j, l, refl))
+    node-gives TypeKind.Qualified c i e = below-then (λ s j l. below-then (λ x k m. given _ (i, j, l, k, m, refl)))
+    node-gives TypeKind.Generic c i e = below-then (λ x j l. then (part (at + 1 + 1)) (λ t n a. given _ (i, j, l, a)))
+    node-gives TypeKind.One c i e = then (part (at + 1)) (λ t n a. given _ (i, e, a))
+    node-gives TypeKind.Fixed c i e = wide-then _ (λ low high w. then (part (at + 1 + 1 + 1)) (λ t n a. given _ (i, w, a)))
+    node-gives TypeKind.Two c i e = then (part (at + 1)) (λ t m a. then (part m) (λ u n b. given _ (i, e, m, a, b)))
+    node-gives TypeKind.Unknown c i e = failed
+
+  pub expr-tree-gives : (d at : ℕ) → Gives (type-expr-tree names d) ws at (λ e n. Type-expr-at names ws e at n)
+  unfolding type-expr-tree
+  expr-tree-gives zero at = failed
+  expr-tree-gives (suc d) at = word-then (λ w i. node-gives d (expr-tree-gives d) at (type-kind w) w (record { inside = i .inside; kind = ap type-kind (i .is) }) (i .is))
+
+  pub type-expr-gives : (at : ℕ) → Gives (type-expr names) ws at (λ e n. Type-expr-stands names ws e at n)
+  unfolding type-expr
+  type-expr-gives at = so-then (both (sized-gives (expr-tree-gives 64 at)) (exact-gives (type-expr-exact names) ws at)) (λ e n h. record { parts = h .0 .0; run-at = h .1 .0; stored = h .1 .1 })

@@ -1,0 +1,36 @@
+-- A reader that reads exactly some words gives what stands there and is good.
+use Prim.Native.Nat.{ℕ, _+_, _-_, _≤_}
+use mathlib.Core.Path.{_≡_, refl, sym, ap, _∙_}
+use mathlib.Core.List.{List, _++_}
+use mathlib.Core.Option.{Option, none, some}
+use native.Mathlib.Omega.{arith}
+use lib.ListN.{length, drop, length-append, length-drop}
+use lib.Seq.{drop-drop, drop-at}
+use Rattle.rules.specs.Reader.{Rest, rest-at, Reader}
+use Rattle.laws.specs.Exact as exact
+use Rattle.laws.specs.Exact.{Exact}
+use Rattle.reading.specs.Gives.{Yields, Gives}
+
+-- the words of a run stand at `at` and end before n
+pub record Stands (ws run : List ℕ) (at n : ℕ) : Type 0 where
+  pub left : drop at ws ≡ run ++ drop n ws
+  pub next : n ≡ at + length run
+
+-- they end inside
+pub stands-inside : (ws run : List ℕ) (at n : ℕ) → Stands ws run at n → at ≤ length ws → n ≤ length ws
+stands-inside ws run at n s i =
+    let l : length ws - at ≡ length run + (length ws - n) = sym (length-drop at ws) ∙ ap length (s .left) ∙ length-append run (drop n ws) ∙ ap (λ (k : ℕ). length run + k) (length-drop n ws) in
+    omega (arith, s .next)
+
+given-y : {A : Type 0} (ws : List ℕ) (P : A → ℕ → Type 0) (o : Option (A × Rest)) → ((a : A) (q : Rest) → o ≡ some (a, q) → (q ≡ rest-at ws (q .at)) × P a (q .at)) → Yields ws P o
+given-y ws P none h = tt
+given-y ws P (some p) h = h (p .0) (p .1) refl
+
+pub exact-gives : {A : Type 0} {r : Reader A} {words : A → List ℕ} {Good : A → Type 0} → Exact r words Good → (ws : List ℕ) (at : ℕ) → Gives r ws at (λ a n. Stands ws (words a) at n × Good a)
+exact-gives {A} {r} {words} {Good} e ws at = record {
+  so = given-y ws (λ a n. Stands ws (words a) at n × Good a) (r (rest-at ws at)) (λ a q i.
+      let s = exact.stands e (rest-at ws at) a q i in
+      let rest : q .left ≡ drop (q .at) ws =
+      sym (drop-at (words a) (q .left) (length (words a)) refl) ∙ ap (drop (length (words a))) (sym (s .0)) ∙ drop-drop (length (words a)) at ws ∙ ap (λ (k : ℕ). drop k ws) (sym (s .1)) in
+      (ap (λ (l : List ℕ). record { at = q .at; left = l }) rest, (record { left = s .0 ∙ ap (λ (l : List ℕ). words a ++ l) rest; next = s .1 }, s .2)));
+}
