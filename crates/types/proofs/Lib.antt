@@ -8,3 +8,4 @@ pub mod Poison
 pub mod Widths
 pub mod ByRange
 pub mod Given
+pub mod Edges
