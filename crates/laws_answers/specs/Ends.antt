@@ -52,3 +52,8 @@ pub refuse-ends : {A : Type 0} (P : A → Type 0) (o : Option A) (r : Refusal) �
 unfolding or-refuse
 refuse-ends P none r s h = err-ends r s
 refuse-ends P (some a) r s h = ok-ends a P h
+
+pub last-ensure-ends : (c : Bool) (r : Refusal) → Short r → Ends (ensure c r) (λ _. Unit {0})
+unfolding ensure
+last-ensure-ends true r s = ok-ends tt _ tt
+last-ensure-ends false r s = err-ends r s
