@@ -7,6 +7,7 @@ pub mod Codes
 pub mod Types
 pub mod Same
 pub mod TypeExprs
+pub mod Counts
 pub mod Visits
 pub mod Depth
 pub mod Widths
@@ -20,3 +21,4 @@ pub mod Substitution
 pub mod Schema
 pub mod Typed
 pub mod TypedRuns
+pub mod MoreNames

@@ -16,7 +16,8 @@ use Rattle.laws.specs.Types.{Stored}
 use Rattle.laws.specs.TypeExprs.{StoredExpr}
 use Rattle.laws.specs.DefinitionRuns.{GoodParam, GoodReturn, GoodTraitFunction, GoodTrait, GoodImpl}
 use Rattle.laws.specs.GoodSchema.{GoodSchema}
-use Rattle.laws.specs.Substitution.{Counts, done-counts, after-counts, substitute-good}
+use Rattle.laws.specs.Counts.{Counts, done-counts, after-counts}
+use Rattle.laws.specs.Substitution.{substitute-good}
 use Rattle.laws.specs.Typed.{TypedParam, TypedSignature}
 use Rattle.laws_answers.specs.Ends as ends
 use Rattle.laws_answers.specs.Ends.{Ends}
