@@ -129,7 +129,7 @@ pub fn check_expr(
         return a;
     }
     let n = a.next;
-    let k = crate::kinds::expr_kind(reading::section_word(image, pool, at));
+    let k = kinds::expr_kind(reading::section_word(image, pool, at));
     match k {
         ExprKind::Literal => pool_types::parts::check_wide(pool, n),
         ExprKind::Flag => reading::check_below(image, pool, n, 2),

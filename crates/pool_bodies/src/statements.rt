@@ -38,7 +38,7 @@ pub fn check_statement(image: &[u8], pool: Section, at: usize, names: u32, strin
         return a;
     }
     let n = a.next;
-    let k = crate::kinds::statement_kind(reading::section_word(image, pool, at));
+    let k = kinds::statement_kind(reading::section_word(image, pool, at));
     match k {
         StatementKind::Plain => crate::expressions::check_expression(
             image,
@@ -72,7 +72,7 @@ pub fn let_at(image: &[u8], pool: Section, at: usize) -> u32
     requires { ⌜ Lies (now image) pool ⌝ }
     ensures { λ r. ⌜ (r ≡ let-of (statement-kind (getD (section-words (now (image .entry)) pool) at 0))) × (r < 2) ⌝ }
 {
-    let k = crate::kinds::statement_kind(reading::section_word(image, pool, at));
+    let k = kinds::statement_kind(reading::section_word(image, pool, at));
     match k {
         StatementKind::Plain => 0,
         StatementKind::Let => 1,

@@ -6,11 +6,11 @@ use native.Mathlib.Omega.{arith}
 use native.Mathlib.Numerals.{add-one}
 use native.Mathlib.Nat.{add-zero, add-suc}
 
-pub and-false : (a : Bool) → a && false ≡ false
+and-false : (a : Bool) → a && false ≡ false
 and-false true = refl
 and-false false = refl
 
-and-assoc : (a b c : Bool) → a && b && c ≡ a && (b && c)
+pub and-assoc : (a b c : Bool) → a && b && c ≡ a && (b && c)
 and-assoc true b c = refl
 and-assoc false b c = refl
 

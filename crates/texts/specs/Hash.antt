@@ -9,7 +9,7 @@ use native.Mathlib.Nat.{lt-irrefl}
 use native.Mathlib.Numerals.{add-one}
 use borrow.Author.Count.{below-more}
 use Rattle.rules.specs.Words.{same}
-use Rattle.texts.specs.Same.{same-false}
+use Rattle.laws.specs.Same.{same-false}
 use Rattle.texts.specs.Rows.{row-text}
 
 unfoldable pub hash-from : ℕ → List ℕ → ℕ

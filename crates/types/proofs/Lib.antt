@@ -8,3 +8,5 @@ pub mod Poison
 pub mod Widths
 pub mod ByRange
 pub mod Given
+pub mod Edges
+pub mod Inferred

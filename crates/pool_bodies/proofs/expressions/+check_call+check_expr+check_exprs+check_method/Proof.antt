@@ -23,7 +23,7 @@ use Rattle.pool_bodies.proofs.expressions.+check_call+check_expr+check_
 use Rattle.pool_bodies.proofs.expressions.check_method.Reads as check-method
 use Rattle.pool_bodies.proofs.expressions.check_method.Kinds as check-method-kinds
 use Rattle.pool_bodies.proofs.expressions.+check_call+check_expr+check_exprs+check_method.Lts-check_method as check-method-lts
-use Rattle.pool_bodies.proofs.kinds.expr_kind.Reads as expr-kind-reads
+use Rattle.kinds.proofs.expr_kind.Reads as expr-kind-reads
 use Rattle.pool_types.proofs.parts.check_wide.Reads as check-wide-reads
 use Rattle.reading.proofs.check_below.Reads as check-below-reads
 use Rattle.reading.proofs.check_word.Reads as check-word-reads

@@ -12,23 +12,18 @@ use Rattle.texts.proofs.qualified.is_joined.Statement.{statement}
 use Rattle.texts.proofs.qualified.is_joined.Tie as tie
 
 returns : tie.Need-returns
-returns c = let a = c .before .before .before .before .args in sym (joined-long (now (a .namespace)) (now (a .name)) (now (a .s)) (c .if1 .taken))
+returns c = let a = c .before .before .before .before .args in sym (joined-long (now (a .namespace)) (now (a .name)) (now (a .s)) (omega arith))
 
 returns-2 : tie.Need-returns-2
-returns-2 c =
-    let e = c .before .before in
-    let a = e .before .before .before .before .args in
-    sym (joined-dotless (now (a .namespace)) (now (a .name)) (now (a .s)) (e .if1 .left) (c .if2 .taken))
+returns-2 c = let a = c .before .before .before .before .before .before .args in sym (joined-dotless (now (a .namespace)) (now (a .name)) (now (a .s)) (omega arith))
 
 returns-3 : tie.Need-returns-3
 returns-3 c =
-    let d = c .before .before .before .before in
-    let e = d .before .before in
-    let a = e .before .before .before .before .args in
+    let a = c .before .before .before .before .before .before .before .before .before .before .args in
     let k = length (now (a .namespace)) in
     let end = drop (k + 1) (now (a .s)) in
     ap₂ _&&_ (c .before .before .same-text .ensures) (c .same-text2 .ensures ∙ ap (same (now (a .name))) (take-all (length (now (a .s)) - (k + 1)) end (omega (arith, length-drop (k + 1) (now (a .s))))))
-    ∙ joined-halves (now (a .namespace)) (now (a .name)) (now (a .s)) (e .if1 .left) (d .if2 .left)
+    ∙ joined-halves (now (a .namespace)) (now (a .name)) (now (a .s)) (omega arith) (omega arith)
 
 pub is-joined-spec : {M : Type 1} → statement M
 is-joined-spec =

@@ -16,12 +16,6 @@ Inv-loop a b k₀ k = (k ≤ length a) × (length a ≡ length b) × (same (drop
 abbrev μ-loop : tie.MeasureT-loop
 μ-loop a b k₀ k = length a - k
 
-returns-2 : tie.Need-returns-2 Inv-loop μ-loop
-returns-2 c =
-    let l = c .before .before .before .before .loop in
-    let a = c .before .before .before .before .before .before .args in
-    sym (same-apart (now (a .a)) (now (a .b)) (l .k) (omega arith) (omega arith) (c .if2 .taken)) ∙ l .inv .2
-
 loop-again : tie.Need-loop-again Inv-loop μ-loop
 loop-again c =
     let l = c .before .before .before .before .loop in
@@ -44,7 +38,7 @@ same-text-spec =
     (λ c. (search needs, search needs, refl))
     (λ c. search needs)
     (λ c. search needs)
-    returns-2
+    (λ c. sym (same-apart _ _ (c .before .before .before .before .loop .k) (c .if2 .taken)))
     (λ c. search needs)
     (λ c. search needs)
     loop-again

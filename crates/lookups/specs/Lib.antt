@@ -1,0 +1,4 @@
+pub mod Aliases
+pub mod Codes
+pub mod Names
+pub mod Generic
