@@ -7,7 +7,7 @@ use mathlib.Core.Option.{Option, none, some}
 use lib.ListN.{length}
 use Rattle.rules.specs.Syntax.{ResolvedType, TypeExpr, Param, CompiledSchema}
 use Rattle.rules.specs.Types.{POISON}
-use Rattle.rules.specs.Substitute.{Counted, after, lookup-alias}
+use Rattle.rules.specs.Substitute.{after, lookup-alias}
 use Rattle.laws.specs.Visits.{Rec, short, plain-expand, plain-node}
 use Rattle.reading.specs.Steps.{true-false}
 use Rattle.held.specs.declared.types.HeldType.{HeldType}

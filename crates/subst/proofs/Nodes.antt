@@ -1,11 +1,11 @@
 -- From the kind of the code to the node that stands there, and from a node to the whole expression. Assumes nothing.
 use Prim.Native.Nat.{ℕ, zero, suc, _-_, _<_, _≤_}
-use mathlib.Core.Path.{_≡_, refl, sym, ap, subst, _∙_}
-use mathlib.Core.Bool.{true, false}
-use mathlib.Core.List.{List, [], _∷_}
+use mathlib.Core.Path.{_≡_, refl, sym, subst, _∙_}
+use mathlib.Core.Bool.{false}
+use mathlib.Core.List.{List}
 use native.Mathlib.Omega.{arith}
 use native.Mathlib.Decide.{decLe}
-use lib.ListN.{length, getD}
+use lib.ListN.{getD}
 use Rattle.rules.specs.Syntax.{ResolvedType, TypeExpr, Param, CompiledSchema}
 use Rattle.rules.specs.Kinds.{type-kind}
 use Rattle.rules.specs.Substitute.{Counted, too-large, done}
@@ -14,12 +14,9 @@ use Rattle.laws.specs.Visits.{plain-node, plain-depth}
 use Rattle.laws.specs.Depth.{enough}
 use Rattle.reading.specs.Sections.{length-section}
 use Rattle.layout.specs.declared.Layout.{Layout}
-use Rattle.layout.specs.Rows.{Inside}
-use Rattle.layout.specs.Open.{Open, pool-words}
-use Rattle.scope.specs.Views.{Views}
+use Rattle.layout.specs.Open.{pool-words}
 use Rattle.stored.specs.Heads.{expr-head, expr-inside}
 use Rattle.pool_types.specs.TypeExprAt.{expr-shape}
-use Rattle.lookups.specs.Aliases.{Expr-stands}
 use Rattle.subst.specs.declared.leaves.Resolved.{Resolved}
 use Rattle.subst.specs.Says.{Fails, Says}
 use Rattle.subst.specs.Nodes.{At, Each, Substitutes, Leaves, Names, Qualifieds, Ones, Fixeds, Twos, Generics}

@@ -1,7 +1,7 @@
 -- The words and the parts of an expression that stands among some words. Assumes nothing.
-use Prim.Native.Nat.{ℕ, _+_, _<_, _≤_}
-use mathlib.Core.Path.{_≡_, refl, sym, ap, subst, _∙_}
-use mathlib.Core.List.{List, [], _∷_, _++_}
+use Prim.Native.Nat.{ℕ, _+_, _<_}
+use mathlib.Core.Path.{_≡_, refl}
+use mathlib.Core.List.{List}
 use native.Mathlib.Omega.{arith}
 use lib.ListN.{length, getD, length-append}
 use Rattle.rules.specs.Syntax.{ResolvedType, TypeExpr, run, expr-run}
@@ -9,7 +9,6 @@ use Rattle.rules.specs.Kinds.{type-kind}
 use Rattle.rules.specs.declared.kinds.TypeKind.{TypeKind}
 use Rattle.laws.specs.Good.{GoodExpr}
 use Rattle.laws.specs.Types.{Stored}
-use Rattle.laws.specs.TypeExprs.{StoredExpr}
 use Rattle.reading.specs.Stands.{Stands}
 use Rattle.pool_types.specs.TypeExprAt.{expr-shape}
 use Rattle.stored.specs.Heads.{head, tail, first, second}

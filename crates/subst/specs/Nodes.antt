@@ -3,7 +3,7 @@ use Prim.Native.Nat.{ℕ, suc, _≤_}
 use mathlib.Core.List.{List}
 use Rattle.rules.specs.Syntax.{ResolvedType, TypeExpr, Param, CompiledSchema}
 use Rattle.rules.specs.Types.{POISON}
-use Rattle.rules.specs.Substitute.{Counted, lookup-qualified, named-or-poison, resolve-name}
+use Rattle.rules.specs.Substitute.{lookup-qualified, named-or-poison, resolve-name}
 use Rattle.laws.specs.Visits.{short, plain-node, plain-depth}
 use Rattle.layout.specs.declared.Layout.{Layout}
 use Rattle.layout.specs.Open.{Open, pool-words}

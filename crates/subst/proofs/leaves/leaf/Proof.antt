@@ -1,19 +1,12 @@
+-- `subst::leaves::leaf` meets its contract. Assumes nothing.
 use mathlib.Core.Path.{refl}
 use native.Mathlib.Omega.{arith}
+use borrow.Author.Needs.{needs}
 use Rattle.subst.proofs.Parts.{leaf-stands}
 use Rattle.subst.proofs.Steps.{one-visit}
-use borrow.Author.Needs.{needs}
 use Rattle.subst.proofs.leaves.leaf.Statement.{statement}
 use Rattle.subst.proofs.leaves.leaf.Tie as tie
-use Rattle.subst.proofs.leaves.leaf.Reads as reads
-use Rattle.subst.proofs.leaves.leaf.Lts as lts
-use Rattle.stored.proofs.hold_type.Reads as hold-type-reads
 
--- src/leaves.rt:37:9
-hold-type-requires : tie.Need-hold-type-requires
-hold-type-requires c κs = search needs
-
--- src/leaves.rt:33:1
 returns : tie.Need-returns
 returns c = let a = c .before .before .before .args in
     record {
@@ -25,4 +18,8 @@ returns c = let a = c .before .before .before .args in
     }
 
 pub leaf-spec : {M : Type 1} → statement M
-leaf-spec = tie.close (tie.spec hold-type-requires returns)
+leaf-spec =
+    tie.close
+    (tie.spec
+    (λ c κs. search needs)
+    returns)

@@ -1,36 +1,18 @@
+-- What the borrow checker leaves of the fixed arrays.
 use borrow.Author.Tests.{not-true, not-false}
-use mathlib.Core.Path.{_≡_, refl, sym, ap, subst₂, _∙_}
-use mathlib.Core.List.{List, _∷_}
-use Rattle.rules.specs.Syntax.{ResolvedType, TypeExpr}
+use mathlib.Core.Path.{subst₂, _∙_}
+use mathlib.Core.List.{_∷_}
+use Prim.Native.Nat.{ℕ, _-_}
+use Rattle.rules.specs.Syntax.{ResolvedType}
 use Rattle.laws.specs.Visits.{plain-node, plain-depth}
 use Rattle.held.specs.Runs.{held-run, Grows}
 use Rattle.held.proofs.Trees.{fixed-built}
 use Rattle.subst.proofs.Parts.{fixed-stands}
 use Rattle.subst.proofs.Steps.{one-stop, one-end}
-use Prim.Native.Nat.{ℕ, _<_, _≤_, _+_, _-_, _*_}
-use borrow.Author.Needs.{needs}
-use native.Mathlib.Omega.{arith}
 use Rattle.subst.proofs.cycle.fixed.Reads as fixed
 use Rattle.subst.proofs.cycle.+expand+fixed+one+substitute_type+two.Lts-fixed as fixed-lts
 use Rattle.subst.proofs.cycle.+expand+fixed+one+substitute_type+two.Proof.Setup.{fixed-at, fixed-calls}
 
--- src/cycle.rt:39:39
-pub fixed-add-substitute-type : (t : ℕ) → fixed-lts.Need-add-substitute-type (fixed-calls t) (fixed-at t) fixed.Post
-fixed-add-substitute-type t c = search needs
-
--- src/cycle.rt:39:39
-pub fixed-add-substitute-type-2 : (t : ℕ) → fixed-lts.Need-add-substitute-type-2 (fixed-calls t) (fixed-at t) fixed.Post
-fixed-add-substitute-type-2 t c = search needs
-
--- src/cycle.rt:39:39
-pub fixed-add-substitute-type-3 : (t : ℕ) → fixed-lts.Need-add-substitute-type-3 (fixed-calls t) (fixed-at t) fixed.Post
-fixed-add-substitute-type-3 t c = search needs
-
--- src/cycle.rt:39:9
-pub fixed-substitute-type-requires : (t : ℕ) → fixed-lts.Need-substitute-type-requires (fixed-calls t) (fixed-at t) fixed.Post
-fixed-substitute-type-requires t c κs = search needs
-
--- src/cycle.rt:41:9
 pub fixed-returns : (t : ℕ) → fixed-lts.Need-returns (fixed-calls t) (fixed-at t) fixed.Post
 unfolding plain-node
 fixed-returns t c = let a = c .before .before .before .before .before .args in
@@ -42,31 +24,6 @@ fixed-returns t c = let a = c .before .before .before .before .before .args in
           one-stop (a .l .names .rows) (a .left) n (plain-depth s f ps x) (ResolvedType.fixed low high) (c .before .before .substitute-type .result) (h .means s o f le ps w x n (p .part)) (not-true _ (c .if1 .taken));
     }
 
--- src/cycle.rt:44:50
-pub fixed-add-section-word : (t : ℕ) → fixed-lts.Need-add-section-word (fixed-calls t) (fixed-at t) fixed.Post
-fixed-add-section-word t c = search needs
-
--- src/cycle.rt:44:9
-pub fixed-section-word-requires : (t : ℕ) → fixed-lts.Need-section-word-requires (fixed-calls t) (fixed-at t) fixed.Post
-fixed-section-word-requires t c κs = search needs
-
--- src/cycle.rt:45:51
-pub fixed-add-section-word-2 : (t : ℕ) → fixed-lts.Need-add-section-word-2 (fixed-calls t) (fixed-at t) fixed.Post
-fixed-add-section-word-2 t c = search needs
-
--- src/cycle.rt:45:51
-pub fixed-add-section-word-3 : (t : ℕ) → fixed-lts.Need-add-section-word-3 (fixed-calls t) (fixed-at t) fixed.Post
-fixed-add-section-word-3 t c = search needs
-
--- src/cycle.rt:45:9
-pub fixed-section-word-requires-2 : (t : ℕ) → fixed-lts.Need-section-word-requires-2 (fixed-calls t) (fixed-at t) fixed.Post
-fixed-section-word-requires-2 t c κs = search needs
-
--- src/cycle.rt:47:9
-pub fixed-fixed-requires : (t : ℕ) → fixed-lts.Need-fixed-requires (fixed-calls t) (fixed-at t) fixed.Post
-fixed-fixed-requires t c κs = search needs
-
--- src/cycle.rt:35:1
 pub fixed-returns-2 : (t : ℕ) → fixed-lts.Need-returns-2 (fixed-calls t) (fixed-at t) fixed.Post
 unfolding plain-node
 fixed-returns-2 t c = let a = c .before .before .before .before .before .before .before .before .before .before .before .args in

@@ -1,6 +1,14 @@
+-- The measures of the cycle, and what each member knows of the functions that it calls.
 use Prim.Native.Nat.{ℕ, _+_, _<_}
 use borrow.Fn.Kinds.{In}
 use borrow.Fn.PlainCycle.{Measures, is, falls, and}
+use Rattle.held.proofs.types.HeldType.fixed.Reads as fixed-reads
+use Rattle.held.proofs.types.HeldType.one.Reads as one-reads
+use Rattle.held.proofs.types.HeldType.two.Reads as two-reads
+use Rattle.kinds.proofs.type_kind.Reads as type-kind-reads
+use Rattle.lookups.proofs.generic.lookup_alias.Reads as lookup-alias-reads
+use Rattle.reading.proofs.section_word.Reads as section-word-reads
+use Rattle.scope.proofs.write_row.Reads as write-row-reads
 use Rattle.subst.proofs.cycle.expand.Reads as expand
 use Rattle.subst.proofs.cycle.expand.Kinds as expand-kinds
 use Rattle.subst.proofs.cycle.+expand+fixed+one+substitute_type+two.Lts-expand as expand-lts
@@ -16,13 +24,6 @@ use Rattle.subst.proofs.cycle.+expand+fixed+one+substitute_type+two.Lts
 use Rattle.subst.proofs.cycle.two.Reads as two
 use Rattle.subst.proofs.cycle.two.Kinds as two-kinds
 use Rattle.subst.proofs.cycle.+expand+fixed+one+substitute_type+two.Lts-two as two-lts
-use Rattle.held.proofs.types.HeldType.fixed.Reads as fixed-reads
-use Rattle.held.proofs.types.HeldType.one.Reads as one-reads
-use Rattle.held.proofs.types.HeldType.two.Reads as two-reads
-use Rattle.kinds.proofs.type_kind.Reads as type-kind-reads
-use Rattle.lookups.proofs.generic.lookup_alias.Reads as lookup-alias-reads
-use Rattle.reading.proofs.section_word.Reads as section-word-reads
-use Rattle.scope.proofs.write_row.Reads as write-row-reads
 use Rattle.subst.proofs.leaves.failed.Reads as failed-reads
 use Rattle.subst.proofs.leaves.leaf.Reads as leaf-reads
 use Rattle.subst.proofs.leaves.named.Reads as named-reads
@@ -83,7 +84,6 @@ two-at t = and 2 two-kinds.ps (is 2 two-kinds.ps μ-two t) two.Pre
 
 abbrev pub two-below : ℕ → In 2 two-kinds.ps
 two-below t = and 2 two-kinds.ps (falls 2 two-kinds.ps _<_ μ-two t) two.Pre
-
 
 -- what expand knows of the functions that it calls
 abbrev pub expand-calls : ℕ → expand-lts.Claims

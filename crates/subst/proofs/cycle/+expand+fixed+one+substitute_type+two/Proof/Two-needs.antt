@@ -1,7 +1,10 @@
+-- What the borrow checker leaves of the nodes of two parts.
 use borrow.Author.Tests.{not-true, not-false}
-use mathlib.Core.Path.{_≡_, refl, sym, ap, subst, _∙_}
-use mathlib.Core.List.{List, _∷_, _++_}
-use Rattle.rules.specs.Syntax.{ResolvedType, TypeExpr}
+use mathlib.Core.Path.{refl, sym, subst, _∙_}
+use mathlib.Core.List.{_∷_, _++_}
+use Prim.Native.Nat.{ℕ, _+_, _-_}
+use native.Mathlib.Omega.{arith}
+use Rattle.rules.specs.Syntax.{ResolvedType}
 use Rattle.laws.specs.Visits.{plain-node, plain-depth}
 use Rattle.layout.specs.Open.{pool-words}
 use Rattle.held.specs.Runs.{held-run, Grows}
@@ -9,22 +12,10 @@ use Rattle.held.proofs.Trees.{two-built}
 use Rattle.lookups.specs.Aliases.{Expr-stands}
 use Rattle.subst.proofs.Parts.{two-stands}
 use Rattle.subst.proofs.Steps.{two-stop, two-stop-second, two-end}
-use Prim.Native.Nat.{ℕ, _<_, _≤_, _+_, _-_, _*_}
-use borrow.Author.Needs.{needs}
-use native.Mathlib.Omega.{arith}
 use Rattle.subst.proofs.cycle.two.Reads as two
 use Rattle.subst.proofs.cycle.+expand+fixed+one+substitute_type+two.Lts-two as two-lts
 use Rattle.subst.proofs.cycle.+expand+fixed+one+substitute_type+two.Proof.Setup.{two-at, two-calls}
 
--- src/cycle.rt:62:39
-pub two-add-substitute-type : (t : ℕ) → two-lts.Need-add-substitute-type (two-calls t) (two-at t) two.Post
-two-add-substitute-type t c = search needs
-
--- src/cycle.rt:62:9
-pub two-substitute-type-requires : (t : ℕ) → two-lts.Need-substitute-type-requires (two-calls t) (two-at t) two.Post
-two-substitute-type-requires t c κs = search needs
-
--- src/cycle.rt:64:9
 pub two-returns : (t : ℕ) → two-lts.Need-returns (two-calls t) (two-at t) two.Post
 unfolding plain-node
 two-returns t c = let a = c .before .before .before .before .before .args in
@@ -36,11 +27,6 @@ two-returns t c = let a = c .before .before .before .before .before .args in
           two-stop (a .l .names .rows) (a .left) (p .middle) (plain-depth s f ps x) (λ _. plain-depth s f ps y) (ResolvedType.two k) (c .before .before .substitute-type .result) (h .means s o f le ps w x (p .middle) (p .left)) (not-true _ (c .if1 .taken)) n;
     }
 
--- src/cycle.rt:68:9
-pub two-substitute-type-requires-2 : (t : ℕ) → two-lts.Need-substitute-type-requires-2 (two-calls t) (two-at t) two.Post
-two-substitute-type-requires-2 t c κs = search needs
-
--- src/cycle.rt:70:9
 pub two-returns-2 : (t : ℕ) → two-lts.Need-returns-2 (two-calls t) (two-at t) two.Post
 unfolding plain-node
 two-returns-2 t c = let a = c .before .before .before .before .before .before .before .before .args in
@@ -55,15 +41,6 @@ two-returns-2 t c = let a = c .before .before .before .before .before .before .b
           two-stop-second (a .l .names .rows) (a .left) (p .middle) (plain-depth s f ps x) (λ _. plain-depth s f ps y) (ResolvedType.two k) (c .before .before .before .before .before .substitute-type .result) l (not-false _ (c .before .before .before .if1 .left)) n (c .before .before .substitute-type2 .result) r (not-true _ (c .if2 .taken)) n (c .before .before .substitute-type2 .result) (not-true _ (c .if2 .taken));
     }
 
--- src/cycle.rt:75:27
-pub two-section-word-requires : (t : ℕ) → two-lts.Need-section-word-requires (two-calls t) (two-at t) two.Post
-two-section-word-requires t c κs = search needs
-
--- src/cycle.rt:75:9
-pub two-two-requires : (t : ℕ) → two-lts.Need-two-requires (two-calls t) (two-at t) two.Post
-two-two-requires t c κs = search needs
-
--- src/cycle.rt:58:1
 pub two-returns-3 : (t : ℕ) → two-lts.Need-returns-3 (two-calls t) (two-at t) two.Post
 unfolding plain-node
 two-returns-3 t c = let a = c .before .before .before .before .before .before .before .before .before .before .before .before .before .before .args in
