@@ -1,12 +1,15 @@
 use borrow.Author.Needs.{needs}
-use mathlib.Core.Path.{sym, _∙_}
+use mathlib.Core.Path.{_≡_, sym, _∙_}
+use denote.Ref.{now}
+use Rattle.rules.specs.declared.kinds.ExprKind.{ExprKind}
+use Rattle.reading.specs.declared.Checked.{Checked}
 use borrow.Author.Tests.{not-true, not-false}
 use Rattle.rules.specs.ReadBodies.{expr-node}
 use Rattle.reading.specs.Says.{then, stop, last, given, failed, below-then}
 use Rattle.pool_bodies.proofs.Nodes.{expr-deep, expr-stop, expr-then}
 use Prim.Native.Nat.{_-_, _*_, _+_}
 use Rattle.rules.specs.ReadBodies.{exprs, expr-tree}
-use Rattle.reading.specs.Verdict.{section-words, Left}
+use Rattle.reading.specs.Verdict.{section-words, Says, Left}
 use Rattle.reading.specs.Loops.{repeat-all, turn, turn-stop, turn-done}
 use Prim.Native.Nat.{ℕ, _<_}
 use borrow.Fn.Kinds.{In}
@@ -95,6 +98,14 @@ check-exprs-calls t = (check-expr-below t, check-expr.Post)
 abbrev check-method-calls : ℕ → check-method-lts.Claims
 check-method-calls t = (check-below-reads.Asked, check-below-reads.Learnt, check-expr-below t, check-expr.Post, section-word-reads.Asked, section-word-reads.Learnt, check-exprs-below t, check-exprs.Post)
 
+-- the code is read and its kind known: what is said behind it is said of the expression
+behind : (t : ℕ) (c : check-expr-lts.After-expr-kind (check-expr-calls t) (check-expr-at t) check-expr.Post) {k : ExprKind} → c .expr-kind .result ≡ k → {d : Checked}
+    → (let a = c .before .before .before .before .before .before .before .args in
+      Says (expr-node (a .names) (a .strings) (expr-tree (a .names) (a .strings) (a .nesting - 1)) k (c .before .section-word .result)) (section-words (now (a .image)) (a .pool)) (c .before .before .before .before .check-word .result .next) d
+      → Says (expr-tree (a .names) (a .strings) (a .nesting)) (section-words (now (a .image)) (a .pool)) (a .at) d)
+behind t c e h =
+    expr-then _ _ (c .before .before .before .before .check-word .ensures _ (c .before .before .before .before .before .before .before .pre .1)) _ (c .before .before .before .before .before .if1 .left) (not-false _ (c .before .before .if2 .left)) (c .before .section-word .ensures) (sym (c .expr-kind .ensures) ∙ e) h
+
 abbrev check-exprs-Inv-loop : check-exprs-lts.InvT-loop
 check-exprs-Inv-loop image pool at names strings nesting count i₀ next₀ i next = Left (exprs (count - i) (expr-tree names strings nesting)) next (exprs count (expr-tree names strings nesting)) (section-words image pool) at
 
@@ -131,7 +142,7 @@ unfolding expr-node
     (λ c. search needs)
     (λ c. search needs)
     (λ c κs. search needs)
-    (λ c. expr-then _ _ (c .before .before .before .before .before .before .before .before .before .check-word .ensures _ (c .before .before .before .before .before .before .before .before .before .before .before .before .pre .1)) _ (c .before .before .before .before .before .before .before .before .before .before .if1 .left) (not-false _ (c .before .before .before .before .before .before .before .if2 .left)) (c .before .before .before .before .before .before .section-word .ensures) (sym (c .before .before .before .before .before .expr-kind .ensures) ∙ c .before .before .before .enum-told6 .given .1) (stop _ (c .before .before .check-below4 .ensures) (not-true _ (c .if3 .taken))))
+    (λ c. behind t (c .before .before .before .before .before) (c .before .before .before .enum-told6 .given .1) (stop _ (c .before .before .check-below4 .ensures) (not-true _ (c .if3 .taken))))
     (λ c. search needs)
     (λ c κs. search needs)
     (λ c. search needs)
@@ -142,29 +153,29 @@ unfolding expr-node
     (λ c κs. search needs)
     (λ c. search needs)
     (λ c κs. search needs)
-    (λ c. expr-then _ _ (c .before .before .before .before .before .before .before .before .before .check-word .ensures _ (c .before .before .before .before .before .before .before .before .before .before .before .before .pre .1)) _ (c .before .before .before .before .before .before .before .before .before .before .if1 .left) (not-false _ (c .before .before .before .before .before .before .before .if2 .left)) (c .before .before .before .before .before .before .section-word .ensures) (sym (c .before .before .before .before .before .expr-kind .ensures) ∙ c .before .before .before .enum-told9 .given .1) (stop _ (c .before .before .check-below5 .ensures) (not-true _ (c .if4 .taken))))
+    (λ c. behind t (c .before .before .before .before .before) (c .before .before .before .enum-told9 .given .1) (stop _ (c .before .before .check-below5 .ensures) (not-true _ (c .if4 .taken))))
     (λ c. search needs)
     (λ c κs. search needs)
-    (λ c. expr-then _ _ (c .before .before .before .before .before .before .before .before .before .before .before .before .check-word .ensures _ (c .before .before .before .before .before .before .before .before .before .before .before .before .before .before .before .pre .1)) _ (c .before .before .before .before .before .before .before .before .before .before .before .before .before .if1 .left) (not-false _ (c .before .before .before .before .before .before .before .before .before .before .if2 .left)) (c .before .before .before .before .before .before .before .before .before .section-word .ensures) (sym (c .before .before .before .before .before .before .before .before .expr-kind .ensures) ∙ c .before .before .before .before .before .before .enum-told9 .given .1) (then (c .before .before .before .before .before .check-below5 .ensures) (not-false _ (c .before .before .before .if4 .left)) (λ o. stop _ (c .before .before .check-expr2 .ensures) (not-true _ (c .if5 .taken)))))
-    (λ c. search needs)
-    (λ c κs. search needs)
-    (λ c. search needs)
-    (λ c κs. search needs)
-    (λ c. expr-then _ _ (c .before .before .before .before .before .before .before .before .before .check-word .ensures _ (c .before .before .before .before .before .before .before .before .before .before .before .before .pre .1)) _ (c .before .before .before .before .before .before .before .before .before .before .if1 .left) (not-false _ (c .before .before .before .before .before .before .before .if2 .left)) (c .before .before .before .before .before .before .section-word .ensures) (sym (c .before .before .before .before .before .expr-kind .ensures) ∙ c .before .before .before .enum-told10 .given .1) (stop _ (c .before .before .check-below6 .ensures) (not-true _ (c .if6 .taken))))
+    (λ c. behind t (c .before .before .before .before .before .before .before .before) (c .before .before .before .before .before .before .enum-told9 .given .1) (then (c .before .before .before .before .before .check-below5 .ensures) (not-false _ (c .before .before .before .if4 .left)) (λ o. stop _ (c .before .before .check-expr2 .ensures) (not-true _ (c .if5 .taken)))))
     (λ c. search needs)
     (λ c κs. search needs)
     (λ c. search needs)
-    (λ c. expr-then _ _ (c .before .before .before .before .before .before .before .check-word .ensures _ (c .before .before .before .before .before .before .before .before .before .before .pre .1)) _ (c .before .before .before .before .before .before .before .before .if1 .left) (not-false _ (c .before .before .before .before .before .if2 .left)) (c .before .before .before .before .section-word .ensures) (sym (c .before .before .before .expr-kind .ensures) ∙ c .before .enum-told .given .1) (last _ (c .check-wide .ensures _ (c .before .before .before .before .before .before .before .before .before .before .pre .1))))
-    (λ c. expr-then _ _ (c .before .before .before .before .before .before .before .check-word .ensures _ (c .before .before .before .before .before .before .before .before .before .before .pre .1)) _ (c .before .before .before .before .before .before .before .before .if1 .left) (not-false _ (c .before .before .before .before .before .if2 .left)) (c .before .before .before .before .section-word .ensures) (sym (c .before .before .before .expr-kind .ensures) ∙ c .before .enum-told2 .given .1) (last _ (c .check-below .ensures)))
-    (λ c. expr-then _ _ (c .before .before .before .before .before .before .before .check-word .ensures _ (c .before .before .before .before .before .before .before .before .before .before .pre .1)) _ (c .before .before .before .before .before .before .before .before .if1 .left) (not-false _ (c .before .before .before .before .before .if2 .left)) (c .before .before .before .before .section-word .ensures) (sym (c .before .before .before .expr-kind .ensures) ∙ c .before .enum-told3 .given .1) (last _ (c .check-below2 .ensures)))
-    (λ c. expr-then _ _ (c .before .before .before .before .before .before .before .check-word .ensures _ (c .before .before .before .before .before .before .before .before .before .before .pre .1)) _ (c .before .before .before .before .before .before .before .before .if1 .left) (not-false _ (c .before .before .before .before .before .if2 .left)) (c .before .before .before .before .section-word .ensures) (sym (c .before .before .before .expr-kind .ensures) ∙ c .before .enum-told4 .given .1) (last _ (c .check-below3 .ensures)))
-    (λ c. expr-then _ _ (c .before .before .before .before .before .before .check-word .ensures _ (c .before .before .before .before .before .before .before .before .before .pre .1)) _ (c .before .before .before .before .before .before .before .if1 .left) (not-false _ (c .before .before .before .before .if2 .left)) (c .before .before .before .section-word .ensures) (sym (c .before .before .expr-kind .ensures) ∙ c .enum-told5 .given .1) (given _ (not-false _ (c .before .before .before .before .if2 .left))))
-    (λ c. expr-then _ _ (c .before .before .before .before .before .before .before .before .before .before .check-word .ensures _ (c .before .before .before .before .before .before .before .before .before .before .before .before .before .pre .1)) _ (c .before .before .before .before .before .before .before .before .before .before .before .if1 .left) (not-false _ (c .before .before .before .before .before .before .before .before .if2 .left)) (c .before .before .before .before .before .before .before .section-word .ensures) (sym (c .before .before .before .before .before .before .expr-kind .ensures) ∙ c .before .before .before .before .enum-told6 .given .1) (then (c .before .before .before .check-below4 .ensures) (not-false _ (c .before .if3 .left)) (λ n. last _ (c .check-expr .ensures))))
-    (λ c. expr-then _ _ (c .before .before .before .before .before .before .before .check-word .ensures _ (c .before .before .before .before .before .before .before .before .before .before .pre .1)) _ (c .before .before .before .before .before .before .before .before .if1 .left) (not-false _ (c .before .before .before .before .before .if2 .left)) (c .before .before .before .before .section-word .ensures) (sym (c .before .before .before .expr-kind .ensures) ∙ c .before .enum-told7 .given .1) (c .check-call .ensures))
-    (λ c. expr-then _ _ (c .before .before .before .before .before .before .before .check-word .ensures _ (c .before .before .before .before .before .before .before .before .before .before .pre .1)) _ (c .before .before .before .before .before .before .before .before .if1 .left) (not-false _ (c .before .before .before .before .before .if2 .left)) (c .before .before .before .before .section-word .ensures) (sym (c .before .before .before .expr-kind .ensures) ∙ c .before .enum-told8 .given .1) (c .check-method .ensures))
-    (λ c. expr-then _ _ (c .before .before .before .before .before .before .before .before .before .before .before .before .before .check-word .ensures _ (c .before .before .before .before .before .before .before .before .before .before .before .before .before .before .before .before .pre .1)) _ (c .before .before .before .before .before .before .before .before .before .before .before .before .before .before .if1 .left) (not-false _ (c .before .before .before .before .before .before .before .before .before .before .before .if2 .left)) (c .before .before .before .before .before .before .before .before .before .before .section-word .ensures) (sym (c .before .before .before .before .before .before .before .before .before .expr-kind .ensures) ∙ c .before .before .before .before .before .before .before .enum-told9 .given .1) (then (c .before .before .before .before .before .before .check-below5 .ensures) (not-false _ (c .before .before .before .before .if4 .left)) (λ o. then (c .before .before .before .check-expr2 .ensures) (not-false _ (c .before .if5 .left)) (λ l. last _ (c .check-expr3 .ensures)))))
-    (λ c. expr-then _ _ (c .before .before .before .before .before .before .before .before .before .before .check-word .ensures _ (c .before .before .before .before .before .before .before .before .before .before .before .before .before .pre .1)) _ (c .before .before .before .before .before .before .before .before .before .before .before .if1 .left) (not-false _ (c .before .before .before .before .before .before .before .before .if2 .left)) (c .before .before .before .before .before .before .before .section-word .ensures) (sym (c .before .before .before .before .before .before .expr-kind .ensures) ∙ c .before .before .before .before .enum-told10 .given .1) (then (c .before .before .before .check-below6 .ensures) (not-false _ (c .before .if6 .left)) (λ o. last _ (c .check-expr4 .ensures))))
-    (λ c. expr-then _ _ (c .before .before .before .before .before .before .check-word .ensures _ (c .before .before .before .before .before .before .before .before .before .pre .1)) _ (c .before .before .before .before .before .before .before .if1 .left) (not-false _ (c .before .before .before .before .if2 .left)) (c .before .before .before .section-word .ensures) (sym (c .before .before .expr-kind .ensures) ∙ c .enum-told11 .given .1) (failed)))
+    (λ c κs. search needs)
+    (λ c. behind t (c .before .before .before .before .before) (c .before .before .before .enum-told10 .given .1) (stop _ (c .before .before .check-below6 .ensures) (not-true _ (c .if6 .taken))))
+    (λ c. search needs)
+    (λ c κs. search needs)
+    (λ c. search needs)
+    (λ c. behind t (c .before .before .before) (c .before .enum-told .given .1) (last _ (c .check-wide .ensures _ (c .before .before .before .before .before .before .before .before .before .before .pre .1))))
+    (λ c. behind t (c .before .before .before) (c .before .enum-told2 .given .1) (last _ (c .check-below .ensures)))
+    (λ c. behind t (c .before .before .before) (c .before .enum-told3 .given .1) (last _ (c .check-below2 .ensures)))
+    (λ c. behind t (c .before .before .before) (c .before .enum-told4 .given .1) (last _ (c .check-below3 .ensures)))
+    (λ c. behind t (c .before .before) (c .enum-told5 .given .1) (given _ (not-false _ (c .before .before .before .before .if2 .left))))
+    (λ c. behind t (c .before .before .before .before .before .before) (c .before .before .before .before .enum-told6 .given .1) (then (c .before .before .before .check-below4 .ensures) (not-false _ (c .before .if3 .left)) (λ n. last _ (c .check-expr .ensures))))
+    (λ c. behind t (c .before .before .before) (c .before .enum-told7 .given .1) (c .check-call .ensures))
+    (λ c. behind t (c .before .before .before) (c .before .enum-told8 .given .1) (c .check-method .ensures))
+    (λ c. behind t (c .before .before .before .before .before .before .before .before .before) (c .before .before .before .before .before .before .before .enum-told9 .given .1) (then (c .before .before .before .before .before .before .check-below5 .ensures) (not-false _ (c .before .before .before .before .if4 .left)) (λ o. then (c .before .before .before .check-expr2 .ensures) (not-false _ (c .before .if5 .left)) (λ l. last _ (c .check-expr3 .ensures)))))
+    (λ c. behind t (c .before .before .before .before .before .before) (c .before .before .before .before .enum-told10 .given .1) (then (c .before .before .before .check-below6 .ensures) (not-false _ (c .before .if6 .left)) (λ o. last _ (c .check-expr4 .ensures))))
+    (λ c. behind t (c .before .before) (c .enum-told11 .given .1) (failed)))
     (λ t. check-exprs-lts.spec (check-exprs-calls t) (check-exprs-at t)
     check-exprs.Post
     check-exprs-Inv-loop

@@ -1,8 +1,13 @@
 use borrow.Author.Needs.{needs}
-use mathlib.Core.Path.{sym, _∙_}
+use mathlib.Core.Path.{_≡_, sym, _∙_}
+use Prim.Native.Nat.{_-_}
+use denote.Ref.{now}
+use Rattle.rules.specs.declared.kinds.TypeKind.{TypeKind}
+use Rattle.reading.specs.declared.Checked.{Checked}
+use Rattle.reading.specs.Verdict.{section-words, Says}
 use borrow.Author.Tests.{not-true, not-false}
 use Rattle.reading.specs.Says.{then, stop, last, given, failed}
-use Rattle.rules.specs.ReadTypes.{type-expr-node}
+use Rattle.rules.specs.ReadTypes.{type-expr-node, type-expr-tree}
 use Rattle.pool_types.proofs.Nodes.{expr-deep, expr-stop, expr-then}
 use Prim.Native.Nat.{ℕ, _<_}
 use borrow.Fn.Kinds.{In}
@@ -43,6 +48,14 @@ check-type-expr-tree-below t =
 abbrev check-type-expr-tree-calls : ℕ → check-type-expr-tree-lts.Claims
 check-type-expr-tree-calls t = (check-word-reads.Asked, check-word-reads.Learnt, section-word-reads.Asked, section-word-reads.Learnt, type-kind-reads.Asked, type-kind-reads.Learnt, check-sub-reads.Asked, check-sub-reads.Learnt, check-bits-reads.Asked, check-bits-reads.Learnt, check-below-reads.Asked, check-below-reads.Learnt, check-type-expr-tree-below t, check-type-expr-tree.Post, check-wide-reads.Asked, check-wide-reads.Learnt)
 
+-- the code is read and its kind known: what is said behind it is said of the tree
+behind : (t : ℕ) (c : check-type-expr-tree-lts.After-type-kind (check-type-expr-tree-calls t) (check-type-expr-tree-at t) check-type-expr-tree.Post) {k : TypeKind} → c .type-kind .result ≡ k → {d : Checked}
+    → (let a = c .before .before .before .before .before .before .before .args in
+      Says (type-expr-node (a .names) (type-expr-tree (a .names) (a .depth - 1)) k (c .before .section-word .result)) (section-words (now (a .image)) (a .pool)) (c .before .before .before .before .check-word .result .next) d
+      → Says (type-expr-tree (a .names) (a .depth)) (section-words (now (a .image)) (a .pool)) (a .at) d)
+behind t c e h =
+    expr-then _ (c .before .before .before .before .check-word .ensures _ (c .before .before .before .before .before .before .before .pre .1)) _ (c .before .before .before .before .before .if1 .left) (not-false _ (c .before .before .if2 .left)) (c .before .section-word .ensures) (sym (c .type-kind .ensures) ∙ e) h
+
 pub +check-type-expr-tree-spec : {M : Type 1} → statement M
 unfolding type-expr-node
 +check-type-expr-tree-spec = close μ-check-type-expr-tree λ t. check-type-expr-tree-lts.spec (check-type-expr-tree-calls t) (check-type-expr-tree-at t)
@@ -61,35 +74,35 @@ unfolding type-expr-node
     (λ c κs. search needs)
     (λ c. search needs)
     (λ c κs. search needs)
-    (λ c. expr-then _ (c .before .before .before .before .before .before .before .before .before .check-word .ensures _ (c .before .before .before .before .before .before .before .before .before .before .before .before .pre .1)) _ (c .before .before .before .before .before .before .before .before .before .before .if1 .left) (not-false _ (c .before .before .before .before .before .before .before .if2 .left)) (c .before .before .before .before .before .before .section-word .ensures) (sym (c .before .before .before .before .before .type-kind .ensures) ∙ c .before .before .before .enum-told5 .given .1) (stop _ (c .before .before .check-below2 .ensures) (not-true _ (c .if3 .taken))))
+    (λ c. behind t (c .before .before .before .before .before) (c .before .before .before .enum-told5 .given .1) (stop _ (c .before .before .check-below2 .ensures) (not-true _ (c .if3 .taken))))
     (λ c κs. search needs)
     (λ c. search needs)
     (λ c κs. search needs)
-    (λ c. expr-then _ (c .before .before .before .before .before .before .before .before .before .check-word .ensures _ (c .before .before .before .before .before .before .before .before .before .before .before .before .pre .1)) _ (c .before .before .before .before .before .before .before .before .before .before .if1 .left) (not-false _ (c .before .before .before .before .before .before .before .if2 .left)) (c .before .before .before .before .before .before .section-word .ensures) (sym (c .before .before .before .before .before .type-kind .ensures) ∙ c .before .before .before .enum-told6 .given .1) (stop _ (c .before .before .check-below4 .ensures) (not-true _ (c .if4 .taken))))
-    (λ c. search needs)
-    (λ c κs. search needs)
-    (λ c. search needs)
-    (λ c. search needs)
-    (λ c κs. search needs)
-    (λ c. search needs)
-    (λ c κs. search needs)
-    (λ c. expr-then _ (c .before .before .before .before .before .before .before .before .before .check-word .ensures _ (c .before .before .before .before .before .before .before .before .before .before .before .before .pre .1)) _ (c .before .before .before .before .before .before .before .before .before .before .if1 .left) (not-false _ (c .before .before .before .before .before .before .before .if2 .left)) (c .before .before .before .before .before .before .section-word .ensures) (sym (c .before .before .before .before .before .type-kind .ensures) ∙ c .before .before .before .enum-told8 .given .1) (stop _ (c .before .before .check-wide .ensures _ (c .before .before .before .before .before .before .before .before .before .before .before .before .pre .1)) (not-true _ (c .if5 .taken))))
+    (λ c. behind t (c .before .before .before .before .before) (c .before .before .before .enum-told6 .given .1) (stop _ (c .before .before .check-below4 .ensures) (not-true _ (c .if4 .taken))))
     (λ c. search needs)
     (λ c κs. search needs)
     (λ c. search needs)
     (λ c. search needs)
     (λ c κs. search needs)
-    (λ c. expr-then _ (c .before .before .before .before .before .before .before .before .before .check-word .ensures _ (c .before .before .before .before .before .before .before .before .before .before .before .before .pre .1)) _ (c .before .before .before .before .before .before .before .before .before .before .if1 .left) (not-false _ (c .before .before .before .before .before .before .before .if2 .left)) (c .before .before .before .before .before .before .section-word .ensures) (sym (c .before .before .before .before .before .type-kind .ensures) ∙ c .before .before .before .enum-told9 .given .1) (stop _ (c .before .before .check-type-expr-tree4 .ensures) (not-true _ (c .if6 .taken))))
+    (λ c. search needs)
+    (λ c κs. search needs)
+    (λ c. behind t (c .before .before .before .before .before) (c .before .before .before .enum-told8 .given .1) (stop _ (c .before .before .check-wide .ensures _ (c .before .before .before .before .before .before .before .before .before .before .before .before .pre .1)) (not-true _ (c .if5 .taken))))
     (λ c. search needs)
     (λ c κs. search needs)
     (λ c. search needs)
-    (λ c. expr-then _ (c .before .before .before .before .before .before .check-word .ensures _ (c .before .before .before .before .before .before .before .before .before .pre .1)) _ (c .before .before .before .before .before .before .before .if1 .left) (not-false _ (c .before .before .before .before .if2 .left)) (c .before .before .before .section-word .ensures) (sym (c .before .before .type-kind .ensures) ∙ c .enum-told .given .1) (given _ (not-false _ (c .before .before .before .before .if2 .left))))
-    (λ c. expr-then _ (c .before .before .before .before .before .before .before .check-word .ensures _ (c .before .before .before .before .before .before .before .before .before .before .pre .1)) _ (c .before .before .before .before .before .before .before .before .if1 .left) (not-false _ (c .before .before .before .before .before .if2 .left)) (c .before .before .before .before .section-word .ensures) (sym (c .before .before .before .type-kind .ensures) ∙ c .before .enum-told2 .given .1) (last _ (c .check-sub .ensures)))
-    (λ c. expr-then _ (c .before .before .before .before .before .before .before .check-word .ensures _ (c .before .before .before .before .before .before .before .before .before .before .pre .1)) _ (c .before .before .before .before .before .before .before .before .if1 .left) (not-false _ (c .before .before .before .before .before .if2 .left)) (c .before .before .before .before .section-word .ensures) (sym (c .before .before .before .type-kind .ensures) ∙ c .before .enum-told3 .given .1) (last _ (c .check-bits .ensures)))
-    (λ c. expr-then _ (c .before .before .before .before .before .before .before .check-word .ensures _ (c .before .before .before .before .before .before .before .before .before .before .pre .1)) _ (c .before .before .before .before .before .before .before .before .if1 .left) (not-false _ (c .before .before .before .before .before .if2 .left)) (c .before .before .before .before .section-word .ensures) (sym (c .before .before .before .type-kind .ensures) ∙ c .before .enum-told4 .given .1) (last _ (c .check-below .ensures)))
-    (λ c. expr-then _ (c .before .before .before .before .before .before .before .before .before .before .check-word .ensures _ (c .before .before .before .before .before .before .before .before .before .before .before .before .before .pre .1)) _ (c .before .before .before .before .before .before .before .before .before .before .before .if1 .left) (not-false _ (c .before .before .before .before .before .before .before .before .if2 .left)) (c .before .before .before .before .before .before .before .section-word .ensures) (sym (c .before .before .before .before .before .before .type-kind .ensures) ∙ c .before .before .before .before .enum-told5 .given .1) (then (c .before .before .before .check-below2 .ensures) (not-false _ (c .before .if3 .left)) (λ h. last _ (c .check-below3 .ensures))))
-    (λ c. expr-then _ (c .before .before .before .before .before .before .before .before .before .before .check-word .ensures _ (c .before .before .before .before .before .before .before .before .before .before .before .before .before .pre .1)) _ (c .before .before .before .before .before .before .before .before .before .before .before .if1 .left) (not-false _ (c .before .before .before .before .before .before .before .before .if2 .left)) (c .before .before .before .before .before .before .before .section-word .ensures) (sym (c .before .before .before .before .before .before .type-kind .ensures) ∙ c .before .before .before .before .enum-told6 .given .1) (then (c .before .before .before .check-below4 .ensures) (not-false _ (c .before .if4 .left)) (λ h. last _ (c .check-type-expr-tree .ensures))))
-    (λ c. expr-then _ (c .before .before .before .before .before .before .before .check-word .ensures _ (c .before .before .before .before .before .before .before .before .before .before .pre .1)) _ (c .before .before .before .before .before .before .before .before .if1 .left) (not-false _ (c .before .before .before .before .before .if2 .left)) (c .before .before .before .before .section-word .ensures) (sym (c .before .before .before .type-kind .ensures) ∙ c .before .enum-told7 .given .1) (last _ (c .check-type-expr-tree2 .ensures)))
-    (λ c. expr-then _ (c .before .before .before .before .before .before .before .before .before .before .check-word .ensures _ (c .before .before .before .before .before .before .before .before .before .before .before .before .before .pre .1)) _ (c .before .before .before .before .before .before .before .before .before .before .before .if1 .left) (not-false _ (c .before .before .before .before .before .before .before .before .if2 .left)) (c .before .before .before .before .before .before .before .section-word .ensures) (sym (c .before .before .before .before .before .before .type-kind .ensures) ∙ c .before .before .before .before .enum-told8 .given .1) (then (c .before .before .before .check-wide .ensures _ (c .before .before .before .before .before .before .before .before .before .before .before .before .before .pre .1)) (not-false _ (c .before .if5 .left)) (λ h. last _ (c .check-type-expr-tree3 .ensures))))
-    (λ c. expr-then _ (c .before .before .before .before .before .before .before .before .before .before .check-word .ensures _ (c .before .before .before .before .before .before .before .before .before .before .before .before .before .pre .1)) _ (c .before .before .before .before .before .before .before .before .before .before .before .if1 .left) (not-false _ (c .before .before .before .before .before .before .before .before .if2 .left)) (c .before .before .before .before .before .before .before .section-word .ensures) (sym (c .before .before .before .before .before .before .type-kind .ensures) ∙ c .before .before .before .before .enum-told9 .given .1) (then (c .before .before .before .check-type-expr-tree4 .ensures) (not-false _ (c .before .if6 .left)) (λ h. last _ (c .check-type-expr-tree5 .ensures))))
-    (λ c. expr-then _ (c .before .before .before .before .before .before .check-word .ensures _ (c .before .before .before .before .before .before .before .before .before .pre .1)) _ (c .before .before .before .before .before .before .before .if1 .left) (not-false _ (c .before .before .before .before .if2 .left)) (c .before .before .before .section-word .ensures) (sym (c .before .before .type-kind .ensures) ∙ c .enum-told10 .given .1) (failed))
+    (λ c. search needs)
+    (λ c κs. search needs)
+    (λ c. behind t (c .before .before .before .before .before) (c .before .before .before .enum-told9 .given .1) (stop _ (c .before .before .check-type-expr-tree4 .ensures) (not-true _ (c .if6 .taken))))
+    (λ c. search needs)
+    (λ c κs. search needs)
+    (λ c. search needs)
+    (λ c. behind t (c .before .before) (c .enum-told .given .1) (given _ (not-false _ (c .before .before .before .before .if2 .left))))
+    (λ c. behind t (c .before .before .before) (c .before .enum-told2 .given .1) (last _ (c .check-sub .ensures)))
+    (λ c. behind t (c .before .before .before) (c .before .enum-told3 .given .1) (last _ (c .check-bits .ensures)))
+    (λ c. behind t (c .before .before .before) (c .before .enum-told4 .given .1) (last _ (c .check-below .ensures)))
+    (λ c. behind t (c .before .before .before .before .before .before) (c .before .before .before .before .enum-told5 .given .1) (then (c .before .before .before .check-below2 .ensures) (not-false _ (c .before .if3 .left)) (λ h. last _ (c .check-below3 .ensures))))
+    (λ c. behind t (c .before .before .before .before .before .before) (c .before .before .before .before .enum-told6 .given .1) (then (c .before .before .before .check-below4 .ensures) (not-false _ (c .before .if4 .left)) (λ h. last _ (c .check-type-expr-tree .ensures))))
+    (λ c. behind t (c .before .before .before) (c .before .enum-told7 .given .1) (last _ (c .check-type-expr-tree2 .ensures)))
+    (λ c. behind t (c .before .before .before .before .before .before) (c .before .before .before .before .enum-told8 .given .1) (then (c .before .before .before .check-wide .ensures _ (c .before .before .before .before .before .before .before .before .before .before .before .before .before .pre .1)) (not-false _ (c .before .if5 .left)) (λ h. last _ (c .check-type-expr-tree3 .ensures))))
+    (λ c. behind t (c .before .before .before .before .before .before) (c .before .before .before .before .enum-told9 .given .1) (then (c .before .before .before .check-type-expr-tree4 .ensures) (not-false _ (c .before .if6 .left)) (λ h. last _ (c .check-type-expr-tree5 .ensures))))
+    (λ c. behind t (c .before .before) (c .enum-told10 .given .1) (failed))

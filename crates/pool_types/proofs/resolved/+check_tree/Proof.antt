@@ -1,8 +1,13 @@
 use borrow.Author.Needs.{needs}
-use mathlib.Core.Path.{sym, _∙_}
+use mathlib.Core.Path.{_≡_, sym, _∙_}
+use Prim.Native.Nat.{_-_}
+use denote.Ref.{now}
+use Rattle.rules.specs.declared.kinds.TypeKind.{TypeKind}
+use Rattle.reading.specs.declared.Checked.{Checked}
+use Rattle.reading.specs.Verdict.{section-words, Says}
 use borrow.Author.Tests.{not-true, not-false}
 use Rattle.reading.specs.Says.{then, stop, last, given, failed}
-use Rattle.rules.specs.ReadTypes.{type-node}
+use Rattle.rules.specs.ReadTypes.{type-node, type-tree}
 use Rattle.pool_types.proofs.Nodes.{type-deep, type-stop, type-then}
 use Prim.Native.Nat.{ℕ, _<_}
 use borrow.Fn.Kinds.{In}
@@ -34,6 +39,14 @@ check-tree-below t =
 abbrev check-tree-calls : ℕ → check-tree-lts.Claims
 check-tree-calls t = (check-word-reads.Asked, check-word-reads.Learnt, section-word-reads.Asked, section-word-reads.Learnt, type-kind-reads.Asked, type-kind-reads.Learnt, check-sub-reads.Asked, check-sub-reads.Learnt, check-bits-reads.Asked, check-bits-reads.Learnt, check-tree-below t, check-tree.Post, check-wide-reads.Asked, check-wide-reads.Learnt)
 
+-- the code is read and its kind known: what is said behind it is said of the tree
+behind : (t : ℕ) (c : check-tree-lts.After-type-kind (check-tree-calls t) (check-tree-at t) check-tree.Post) {k : TypeKind} → c .type-kind .result ≡ k → {d : Checked}
+    → (let a = c .before .before .before .before .before .before .before .args in
+      Says (type-node (a .names) (type-tree (a .names) (a .depth - 1)) k (c .before .section-word .result)) (section-words (now (a .image)) (a .pool)) (c .before .before .before .before .check-word .result .next) d
+      → Says (type-tree (a .names) (a .depth)) (section-words (now (a .image)) (a .pool)) (a .at) d)
+behind t c e h =
+    type-then _ (c .before .before .before .before .check-word .ensures _ (c .before .before .before .before .before .before .before .pre .1)) _ (c .before .before .before .before .before .if1 .left) (not-false _ (c .before .before .if2 .left)) (c .before .section-word .ensures) (sym (c .type-kind .ensures) ∙ e) h
+
 pub +check-tree-spec : {M : Type 1} → statement M
 unfolding type-node
 +check-tree-spec = close μ-check-tree λ t. check-tree-lts.spec (check-tree-calls t) (check-tree-at t)
@@ -57,23 +70,23 @@ unfolding type-node
     (λ c κs. search needs)
     (λ c. search needs)
     (λ c κs. search needs)
-    (λ c. type-then _ (c .before .before .before .before .before .before .before .before .before .check-word .ensures _ (c .before .before .before .before .before .before .before .before .before .before .before .before .pre .1)) _ (c .before .before .before .before .before .before .before .before .before .before .if1 .left) (not-false _ (c .before .before .before .before .before .before .before .if2 .left)) (c .before .before .before .before .before .before .section-word .ensures) (sym (c .before .before .before .before .before .type-kind .ensures) ∙ c .before .before .before .enum-told8 .given .1) (stop _ (c .before .before .check-wide .ensures _ (c .before .before .before .before .before .before .before .before .before .before .before .before .pre .1)) (not-true _ (c .if3 .taken))))
+    (λ c. behind t (c .before .before .before .before .before) (c .before .before .before .enum-told8 .given .1) (stop _ (c .before .before .check-wide .ensures _ (c .before .before .before .before .before .before .before .before .before .before .before .before .pre .1)) (not-true _ (c .if3 .taken))))
     (λ c. search needs)
     (λ c κs. search needs)
     (λ c. search needs)
     (λ c. search needs)
     (λ c κs. search needs)
-    (λ c. type-then _ (c .before .before .before .before .before .before .before .before .before .check-word .ensures _ (c .before .before .before .before .before .before .before .before .before .before .before .before .pre .1)) _ (c .before .before .before .before .before .before .before .before .before .before .if1 .left) (not-false _ (c .before .before .before .before .before .before .before .if2 .left)) (c .before .before .before .before .before .before .section-word .ensures) (sym (c .before .before .before .before .before .type-kind .ensures) ∙ c .before .before .before .enum-told9 .given .1) (stop _ (c .before .before .check-tree3 .ensures) (not-true _ (c .if4 .taken))))
+    (λ c. behind t (c .before .before .before .before .before) (c .before .before .before .enum-told9 .given .1) (stop _ (c .before .before .check-tree3 .ensures) (not-true _ (c .if4 .taken))))
     (λ c. search needs)
     (λ c κs. search needs)
     (λ c. search needs)
-    (λ c. type-then _ (c .before .before .before .before .before .before .check-word .ensures _ (c .before .before .before .before .before .before .before .before .before .pre .1)) _ (c .before .before .before .before .before .before .before .if1 .left) (not-false _ (c .before .before .before .before .if2 .left)) (c .before .before .before .section-word .ensures) (sym (c .before .before .type-kind .ensures) ∙ c .enum-told .given .1) (given _ (not-false _ (c .before .before .before .before .if2 .left))))
-    (λ c. type-then _ (c .before .before .before .before .before .before .before .check-word .ensures _ (c .before .before .before .before .before .before .before .before .before .before .pre .1)) _ (c .before .before .before .before .before .before .before .before .if1 .left) (not-false _ (c .before .before .before .before .before .if2 .left)) (c .before .before .before .before .section-word .ensures) (sym (c .before .before .before .type-kind .ensures) ∙ c .before .enum-told2 .given .1) (c .check-sub .ensures))
-    (λ c. type-then _ (c .before .before .before .before .before .before .before .check-word .ensures _ (c .before .before .before .before .before .before .before .before .before .before .pre .1)) _ (c .before .before .before .before .before .before .before .before .if1 .left) (not-false _ (c .before .before .before .before .before .if2 .left)) (c .before .before .before .before .section-word .ensures) (sym (c .before .before .before .type-kind .ensures) ∙ c .before .enum-told3 .given .1) (c .check-bits .ensures))
-    (λ c. type-then _ (c .before .before .before .before .before .before .before .check-word .ensures _ (c .before .before .before .before .before .before .before .before .before .before .pre .1)) _ (c .before .before .before .before .before .before .before .before .if1 .left) (not-false _ (c .before .before .before .before .before .if2 .left)) (c .before .before .before .before .section-word .ensures) (sym (c .before .before .before .type-kind .ensures) ∙ c .before .enum-told4 .given .1) (last _ (c .check-word2 .ensures _ (c .before .before .before .before .before .before .before .before .before .before .pre .1))))
-    (λ c. type-then _ (c .before .before .before .before .before .before .check-word .ensures _ (c .before .before .before .before .before .before .before .before .before .pre .1)) _ (c .before .before .before .before .before .before .before .if1 .left) (not-false _ (c .before .before .before .before .if2 .left)) (c .before .before .before .section-word .ensures) (sym (c .before .before .type-kind .ensures) ∙ c .enum-told5 .given .1) (failed))
-    (λ c. type-then _ (c .before .before .before .before .before .before .check-word .ensures _ (c .before .before .before .before .before .before .before .before .before .pre .1)) _ (c .before .before .before .before .before .before .before .if1 .left) (not-false _ (c .before .before .before .before .if2 .left)) (c .before .before .before .section-word .ensures) (sym (c .before .before .type-kind .ensures) ∙ c .enum-told6 .given .1) (failed))
-    (λ c. type-then _ (c .before .before .before .before .before .before .before .check-word .ensures _ (c .before .before .before .before .before .before .before .before .before .before .pre .1)) _ (c .before .before .before .before .before .before .before .before .if1 .left) (not-false _ (c .before .before .before .before .before .if2 .left)) (c .before .before .before .before .section-word .ensures) (sym (c .before .before .before .type-kind .ensures) ∙ c .before .enum-told7 .given .1) (last _ (c .check-tree .ensures)))
-    (λ c. type-then _ (c .before .before .before .before .before .before .before .before .before .before .check-word .ensures _ (c .before .before .before .before .before .before .before .before .before .before .before .before .before .pre .1)) _ (c .before .before .before .before .before .before .before .before .before .before .before .if1 .left) (not-false _ (c .before .before .before .before .before .before .before .before .if2 .left)) (c .before .before .before .before .before .before .before .section-word .ensures) (sym (c .before .before .before .before .before .before .type-kind .ensures) ∙ c .before .before .before .before .enum-told8 .given .1) (then (c .before .before .before .check-wide .ensures _ (c .before .before .before .before .before .before .before .before .before .before .before .before .before .pre .1)) (not-false _ (c .before .if3 .left)) (λ h. last _ (c .check-tree2 .ensures))))
-    (λ c. type-then _ (c .before .before .before .before .before .before .before .before .before .before .check-word .ensures _ (c .before .before .before .before .before .before .before .before .before .before .before .before .before .pre .1)) _ (c .before .before .before .before .before .before .before .before .before .before .before .if1 .left) (not-false _ (c .before .before .before .before .before .before .before .before .if2 .left)) (c .before .before .before .before .before .before .before .section-word .ensures) (sym (c .before .before .before .before .before .before .type-kind .ensures) ∙ c .before .before .before .before .enum-told9 .given .1) (then (c .before .before .before .check-tree3 .ensures) (not-false _ (c .before .if4 .left)) (λ h. last _ (c .check-tree4 .ensures))))
-    (λ c. type-then _ (c .before .before .before .before .before .before .check-word .ensures _ (c .before .before .before .before .before .before .before .before .before .pre .1)) _ (c .before .before .before .before .before .before .before .if1 .left) (not-false _ (c .before .before .before .before .if2 .left)) (c .before .before .before .section-word .ensures) (sym (c .before .before .type-kind .ensures) ∙ c .enum-told10 .given .1) (failed))
+    (λ c. behind t (c .before .before) (c .enum-told .given .1) (given _ (not-false _ (c .before .before .before .before .if2 .left))))
+    (λ c. behind t (c .before .before .before) (c .before .enum-told2 .given .1) (c .check-sub .ensures))
+    (λ c. behind t (c .before .before .before) (c .before .enum-told3 .given .1) (c .check-bits .ensures))
+    (λ c. behind t (c .before .before .before) (c .before .enum-told4 .given .1) (last _ (c .check-word2 .ensures _ (c .before .before .before .before .before .before .before .before .before .before .pre .1))))
+    (λ c. behind t (c .before .before) (c .enum-told5 .given .1) (failed))
+    (λ c. behind t (c .before .before) (c .enum-told6 .given .1) (failed))
+    (λ c. behind t (c .before .before .before) (c .before .enum-told7 .given .1) (last _ (c .check-tree .ensures)))
+    (λ c. behind t (c .before .before .before .before .before .before) (c .before .before .before .before .enum-told8 .given .1) (then (c .before .before .before .check-wide .ensures _ (c .before .before .before .before .before .before .before .before .before .before .before .before .before .pre .1)) (not-false _ (c .before .if3 .left)) (λ h. last _ (c .check-tree2 .ensures))))
+    (λ c. behind t (c .before .before .before .before .before .before) (c .before .before .before .before .enum-told9 .given .1) (then (c .before .before .before .check-tree3 .ensures) (not-false _ (c .before .if4 .left)) (λ h. last _ (c .check-tree4 .ensures))))
+    (λ c. behind t (c .before .before) (c .enum-told10 .given .1) (failed))
