@@ -101,8 +101,8 @@ check-method-calls t = (check-below-reads.Asked, check-below-reads.Learnt, check
 -- the code is read and its kind known: what is said behind it is said of the expression
 behind : (t : ℕ) (c : check-expr-lts.After-expr-kind (check-expr-calls t) (check-expr-at t) check-expr.Post) {k : ExprKind} → c .expr-kind .result ≡ k → {d : Checked}
     → (let a = c .before .before .before .before .before .before .before .args in
-      Says (expr-node (a .names) (a .strings) (expr-tree (a .names) (a .strings) (a .nesting - 1)) k (c .before .section-word .result)) (section-words (now (a .image)) (a .pool)) (c .before .before .before .before .check-word .result .next) d
-      → Says (expr-tree (a .names) (a .strings) (a .nesting)) (section-words (now (a .image)) (a .pool)) (a .at) d)
+    Says (expr-node (a .names) (a .strings) (expr-tree (a .names) (a .strings) (a .nesting - 1)) k (c .before .section-word .result)) (section-words (now (a .image)) (a .pool)) (c .before .before .before .before .check-word .result .next) d
+    → Says (expr-tree (a .names) (a .strings) (a .nesting)) (section-words (now (a .image)) (a .pool)) (a .at) d)
 behind t c e h =
     expr-then _ _ (c .before .before .before .before .check-word .ensures _ (c .before .before .before .before .before .before .before .pre .1)) _ (c .before .before .before .before .before .if1 .left) (not-false _ (c .before .before .if2 .left)) (c .before .section-word .ensures) (sym (c .expr-kind .ensures) ∙ e) h
 

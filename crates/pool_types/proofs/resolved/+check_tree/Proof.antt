@@ -42,8 +42,8 @@ check-tree-calls t = (check-word-reads.Asked, check-word-reads.Learnt, section-w
 -- the code is read and its kind known: what is said behind it is said of the tree
 behind : (t : ℕ) (c : check-tree-lts.After-type-kind (check-tree-calls t) (check-tree-at t) check-tree.Post) {k : TypeKind} → c .type-kind .result ≡ k → {d : Checked}
     → (let a = c .before .before .before .before .before .before .before .args in
-      Says (type-node (a .names) (type-tree (a .names) (a .depth - 1)) k (c .before .section-word .result)) (section-words (now (a .image)) (a .pool)) (c .before .before .before .before .check-word .result .next) d
-      → Says (type-tree (a .names) (a .depth)) (section-words (now (a .image)) (a .pool)) (a .at) d)
+    Says (type-node (a .names) (type-tree (a .names) (a .depth - 1)) k (c .before .section-word .result)) (section-words (now (a .image)) (a .pool)) (c .before .before .before .before .check-word .result .next) d
+    → Says (type-tree (a .names) (a .depth)) (section-words (now (a .image)) (a .pool)) (a .at) d)
 behind t c e h =
     type-then _ (c .before .before .before .before .check-word .ensures _ (c .before .before .before .before .before .before .before .pre .1)) _ (c .before .before .before .before .before .if1 .left) (not-false _ (c .before .before .if2 .left)) (c .before .section-word .ensures) (sym (c .type-kind .ensures) ∙ e) h
 

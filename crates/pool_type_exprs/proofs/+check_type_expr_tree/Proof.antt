@@ -8,22 +8,22 @@ use Rattle.reading.specs.Verdict.{section-words, Says}
 use borrow.Author.Tests.{not-true, not-false}
 use Rattle.reading.specs.Says.{then, stop, last, given, failed}
 use Rattle.rules.specs.ReadTypes.{type-expr-node, type-expr-tree}
-use Rattle.pool_types.proofs.Nodes.{expr-deep, expr-stop, expr-then}
+use Rattle.pool_type_exprs.proofs.Nodes.{expr-deep, expr-stop, expr-then}
 use Prim.Native.Nat.{ℕ, _<_}
 use borrow.Fn.Kinds.{In}
 use borrow.Fn.PlainCycle.{Measures, is, falls, and}
-use Rattle.pool_types.proofs.expressions.check_type_expr_tree.Reads as check-type-expr-tree
-use Rattle.pool_types.proofs.expressions.check_type_expr_tree.Kinds as check-type-expr-tree-kinds
-use Rattle.pool_types.proofs.expressions.+check_type_expr_tree.Lts-check_type_expr_tree as check-type-expr-tree-lts
+use Rattle.pool_type_exprs.proofs.check_type_expr_tree.Reads as check-type-expr-tree
+use Rattle.pool_type_exprs.proofs.check_type_expr_tree.Kinds as check-type-expr-tree-kinds
+use Rattle.pool_type_exprs.proofs.+check_type_expr_tree.Lts-check_type_expr_tree as check-type-expr-tree-lts
 use Rattle.pool_types.proofs.kinds.type_kind.Reads as type-kind-reads
 use Rattle.pool_types.proofs.parts.check_bits.Reads as check-bits-reads
 use Rattle.pool_types.proofs.parts.check_sub.Reads as check-sub-reads
 use Rattle.pool_types.proofs.parts.check_wide.Reads as check-wide-reads
 use Rattle.reading.proofs.check_below.Reads as check-below-reads
 use Rattle.reading.proofs.check_word.Reads as check-word-reads
 use Rattle.reading.proofs.section_word.Reads as section-word-reads
-use Rattle.pool_types.proofs.expressions.+check_type_expr_tree.{statement}
-use Rattle.pool_types.proofs.expressions.+check_type_expr_tree.Tie.{close}
+use Rattle.pool_type_exprs.proofs.+check_type_expr_tree.{statement}
+use Rattle.pool_type_exprs.proofs.+check_type_expr_tree.Tie.{close}
 
 abbrev μ-check-type-expr-tree : Measures 1 check-type-expr-tree-kinds.ps ℕ
 μ-check-type-expr-tree κs a = a .1 .1 .1 .1 .0
@@ -51,8 +51,8 @@ check-type-expr-tree-calls t = (check-word-reads.Asked, check-word-reads.Learnt,
 -- the code is read and its kind known: what is said behind it is said of the tree
 behind : (t : ℕ) (c : check-type-expr-tree-lts.After-type-kind (check-type-expr-tree-calls t) (check-type-expr-tree-at t) check-type-expr-tree.Post) {k : TypeKind} → c .type-kind .result ≡ k → {d : Checked}
     → (let a = c .before .before .before .before .before .before .before .args in
-      Says (type-expr-node (a .names) (type-expr-tree (a .names) (a .depth - 1)) k (c .before .section-word .result)) (section-words (now (a .image)) (a .pool)) (c .before .before .before .before .check-word .result .next) d
-      → Says (type-expr-tree (a .names) (a .depth)) (section-words (now (a .image)) (a .pool)) (a .at) d)
+    Says (type-expr-node (a .names) (type-expr-tree (a .names) (a .depth - 1)) k (c .before .section-word .result)) (section-words (now (a .image)) (a .pool)) (c .before .before .before .before .check-word .result .next) d
+    → Says (type-expr-tree (a .names) (a .depth)) (section-words (now (a .image)) (a .pool)) (a .at) d)
 behind t c e h =
     expr-then _ (c .before .before .before .before .check-word .ensures _ (c .before .before .before .before .before .before .before .pre .1)) _ (c .before .before .before .before .before .if1 .left) (not-false _ (c .before .before .if2 .left)) (c .before .section-word .ensures) (sym (c .type-kind .ensures) ∙ e) h
 

@@ -1,4 +1,4 @@
-// Type expressions in the pool, alone and with names before them.
+// Whether a type expression stands in the pool, as the rules read it, alone and with a name before it.
 use reading::Checked;
 use reading::Section;
 use rules::kinds::TypeKind;
@@ -25,11 +25,11 @@ pub fn check_type_expr_tree(
         return a;
     }
     let n = a.next;
-    let k = crate::kinds::type_kind(reading::section_word(image, pool, at));
+    let k = pool_types::kinds::type_kind(reading::section_word(image, pool, at));
     match k {
         TypeKind::Plain => a,
-        TypeKind::Sub => crate::parts::check_sub(image, pool, n),
-        TypeKind::Bits => crate::parts::check_bits(image, pool, n, names),
+        TypeKind::Sub => pool_types::parts::check_sub(image, pool, n),
+        TypeKind::Bits => pool_types::parts::check_bits(image, pool, n, names),
         TypeKind::Named => reading::check_below(image, pool, n, names),
         TypeKind::Qualified => {
             let h = reading::check_below(image, pool, n, names);
@@ -49,7 +49,7 @@ pub fn check_type_expr_tree(
         }
         TypeKind::One => check_type_expr_tree(image, pool, n, names, depth - 1),
         TypeKind::Fixed => {
-            let h = crate::parts::check_wide(pool, n);
+            let h = pool_types::parts::check_wide(pool, n);
             if !h.ok {
                 return h;
             }
