@@ -8,7 +8,7 @@ use Rattle.reading.specs.Verdict.{section-words, Says}
 use borrow.Author.Tests.{not-true, not-false}
 use Rattle.reading.specs.Says.{then, stop, last, given, failed}
 use Rattle.rules.specs.ReadTypes.{type-expr-node, type-expr-tree}
-use Rattle.pool_type_exprs.proofs.Nodes.{expr-deep, expr-stop, expr-then}
+use Rattle.reading.specs.Trees.{type-expr-is, tree-deep, tree-stop, tree-then}
 use Prim.Native.Nat.{ℕ, _<_}
 use borrow.Fn.Kinds.{In}
 use borrow.Fn.PlainCycle.{Measures, is, falls, and}
@@ -54,15 +54,15 @@ behind : (t : ℕ) (c : check-type-expr-tree-lts.After-type-kind (check-type-exp
     Says (type-expr-node (a .names) (type-expr-tree (a .names) (a .depth - 1)) k (c .before .section-word .result)) (section-words (now (a .image)) (a .pool)) (c .before .before .before .before .check-word .result .next) d
     → Says (type-expr-tree (a .names) (a .depth)) (section-words (now (a .image)) (a .pool)) (a .at) d)
 behind t c e h =
-    expr-then _ (c .before .before .before .before .check-word .ensures _ (c .before .before .before .before .before .before .before .pre .1)) _ (c .before .before .before .before .before .if1 .left) (not-false _ (c .before .before .if2 .left)) (c .before .section-word .ensures) (sym (c .type-kind .ensures) ∙ e) h
+    tree-then (type-expr-is _) (c .before .before .before .before .check-word .ensures _ (c .before .before .before .before .before .before .before .pre .1)) _ (c .before .before .before .before .before .if1 .left) (not-false _ (c .before .before .if2 .left)) (c .before .section-word .ensures) (sym (c .type-kind .ensures) ∙ e) h
 
 pub +check-type-expr-tree-spec : {M : Type 1} → statement M
 unfolding type-expr-node
 +check-type-expr-tree-spec = close μ-check-type-expr-tree λ t. check-type-expr-tree-lts.spec (check-type-expr-tree-calls t) (check-type-expr-tree-at t)
     check-type-expr-tree.Post
-    (λ c. expr-deep _ _ (c .if1 .taken))
+    (λ c. tree-deep (type-expr-is _) _ (c .if1 .taken))
     (λ c κs. search needs)
-    (λ c. expr-stop _ (c .before .before .check-word .ensures _ (c .before .before .before .before .before .pre .1)) _ (c .before .before .before .if1 .left) (not-true _ (c .if2 .taken)))
+    (λ c. tree-stop (type-expr-is _) (c .before .before .check-word .ensures _ (c .before .before .before .before .before .pre .1)) _ (c .before .before .before .if1 .left) (not-true _ (c .if2 .taken)))
     (λ c κs. search needs)
     (λ c κs. search needs)
     (λ c. search needs)

@@ -6,7 +6,7 @@ use Rattle.reading.specs.declared.Checked.{Checked}
 use borrow.Author.Tests.{not-true, not-false}
 use Rattle.rules.specs.ReadBodies.{expr-node}
 use Rattle.reading.specs.Says.{then, stop, last, given, failed, below-then}
-use Rattle.pool_bodies.proofs.Nodes.{expr-deep, expr-stop, expr-then}
+use Rattle.reading.specs.Trees.{expr-is, tree-deep, tree-stop, tree-then}
 use Prim.Native.Nat.{_-_, _*_, _+_}
 use Rattle.rules.specs.ReadBodies.{exprs, expr-tree}
 use Rattle.reading.specs.Verdict.{section-words, Says, Left}
@@ -104,7 +104,7 @@ behind : (t : ℕ) (c : check-expr-lts.After-expr-kind (check-expr-calls t) (che
     Says (expr-node (a .names) (a .strings) (expr-tree (a .names) (a .strings) (a .nesting - 1)) k (c .before .section-word .result)) (section-words (now (a .image)) (a .pool)) (c .before .before .before .before .check-word .result .next) d
     → Says (expr-tree (a .names) (a .strings) (a .nesting)) (section-words (now (a .image)) (a .pool)) (a .at) d)
 behind t c e h =
-    expr-then _ _ (c .before .before .before .before .check-word .ensures _ (c .before .before .before .before .before .before .before .pre .1)) _ (c .before .before .before .before .before .if1 .left) (not-false _ (c .before .before .if2 .left)) (c .before .section-word .ensures) (sym (c .expr-kind .ensures) ∙ e) h
+    tree-then (expr-is _ _) (c .before .before .before .before .check-word .ensures _ (c .before .before .before .before .before .before .before .pre .1)) _ (c .before .before .before .before .before .if1 .left) (not-false _ (c .before .before .if2 .left)) (c .before .section-word .ensures) (sym (c .expr-kind .ensures) ∙ e) h
 
 abbrev check-exprs-Inv-loop : check-exprs-lts.InvT-loop
 check-exprs-Inv-loop image pool at names strings nesting count i₀ next₀ i next = Left (exprs (count - i) (expr-tree names strings nesting)) next (exprs count (expr-tree names strings nesting)) (section-words image pool) at
@@ -126,9 +126,9 @@ unfolding expr-node
     (λ c. then (c .before .before .before .before .before .before .before .check-below .ensures) (not-false _ (c .before .before .before .before .before .if1 .left)) (λ n. below-then _ _ (c .before .before .before .before .check-below2 .ensures) (not-false _ (c .before .before .if2 .left)) (c .before .section-word .ensures) (last _ (c .check-exprs .ensures)))))
     (λ t. check-expr-lts.spec (check-expr-calls t) (check-expr-at t)
     check-expr.Post
-    (λ c. expr-deep _ _ _ (c .if1 .taken))
+    (λ c. tree-deep (expr-is _ _) _ (c .if1 .taken))
     (λ c κs. search needs)
-    (λ c. expr-stop _ _ (c .before .before .check-word .ensures _ (c .before .before .before .before .before .pre .1)) _ (c .before .before .before .if1 .left) (not-true _ (c .if2 .taken)))
+    (λ c. tree-stop (expr-is _ _) (c .before .before .check-word .ensures _ (c .before .before .before .before .before .pre .1)) _ (c .before .before .before .if1 .left) (not-true _ (c .if2 .taken)))
     (λ c κs. search needs)
     (λ c κs. search needs)
     (λ c. search needs)

@@ -8,7 +8,7 @@ use Rattle.reading.specs.Verdict.{section-words, Says}
 use borrow.Author.Tests.{not-true, not-false}
 use Rattle.reading.specs.Says.{then, stop, last, given, failed}
 use Rattle.rules.specs.ReadTypes.{type-node, type-tree}
-use Rattle.pool_types.proofs.Nodes.{type-deep, type-stop, type-then}
+use Rattle.reading.specs.Trees.{type-is, tree-deep, tree-stop, tree-then}
 use Prim.Native.Nat.{ℕ, _<_}
 use borrow.Fn.Kinds.{In}
 use borrow.Fn.PlainCycle.{Measures, is, falls, and}
@@ -45,15 +45,15 @@ behind : (t : ℕ) (c : check-tree-lts.After-type-kind (check-tree-calls t) (che
     Says (type-node (a .names) (type-tree (a .names) (a .depth - 1)) k (c .before .section-word .result)) (section-words (now (a .image)) (a .pool)) (c .before .before .before .before .check-word .result .next) d
     → Says (type-tree (a .names) (a .depth)) (section-words (now (a .image)) (a .pool)) (a .at) d)
 behind t c e h =
-    type-then _ (c .before .before .before .before .check-word .ensures _ (c .before .before .before .before .before .before .before .pre .1)) _ (c .before .before .before .before .before .if1 .left) (not-false _ (c .before .before .if2 .left)) (c .before .section-word .ensures) (sym (c .type-kind .ensures) ∙ e) h
+    tree-then (type-is _) (c .before .before .before .before .check-word .ensures _ (c .before .before .before .before .before .before .before .pre .1)) _ (c .before .before .before .before .before .if1 .left) (not-false _ (c .before .before .if2 .left)) (c .before .section-word .ensures) (sym (c .type-kind .ensures) ∙ e) h
 
 pub +check-tree-spec : {M : Type 1} → statement M
 unfolding type-node
 +check-tree-spec = close μ-check-tree λ t. check-tree-lts.spec (check-tree-calls t) (check-tree-at t)
     check-tree.Post
-    (λ c. type-deep _ _ (c .if1 .taken))
+    (λ c. tree-deep (type-is _) _ (c .if1 .taken))
     (λ c κs. search needs)
-    (λ c. type-stop _ (c .before .before .check-word .ensures _ (c .before .before .before .before .before .pre .1)) _ (c .before .before .before .if1 .left) (not-true _ (c .if2 .taken)))
+    (λ c. tree-stop (type-is _) (c .before .before .check-word .ensures _ (c .before .before .before .before .before .pre .1)) _ (c .before .before .before .if1 .left) (not-true _ (c .if2 .taken)))
     (λ c κs. search needs)
     (λ c κs. search needs)
     (λ c. search needs)
