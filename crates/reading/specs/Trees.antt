@@ -5,7 +5,6 @@ use mathlib.Core.Bool.{true, false}
 use mathlib.Core.List.{List}
 use native.Mathlib.Omega.{arith}
 use lib.ListN.{getD}
-use Rattle.rules.specs.Syntax.{ResolvedType, TypeExpr, Expr}
 use Rattle.rules.specs.Reader.{Reader, _>>=_, fail, word}
 use Rattle.rules.specs.Kinds.{type-kind, expr-kind}
 use Rattle.rules.specs.ReadTypes.{type-node, type-tree, type-expr-node, type-expr-tree}
