@@ -16,7 +16,9 @@ use Rattle.laws.specs.Exact.{Exact, below-exact, many-exact, maybe-exact
 use Rattle.laws.specs.Types.{type-exact}
 use Rattle.laws.specs.TypeExprs.{type-expr-exact}
 use Rattle.laws.specs.Statements.{body-exact}
-use Rattle.laws.specs.DefinitionRuns.{Few, own, typed-words, message-words, generic-alias-words, trait-return-words, trait-function-words, trait-words, impl-function-words, implementation-words, GoodParam, GoodMessage, GoodAlias, GoodReturn, GoodTraitFunction, GoodTrait, GoodFunction, GoodImpl}
+use Rattle.laws.specs.DefinitionRuns.{Few, own, typed-words, message-words, generic-alias-words, trait-return-words, trait-function-words, trait-words}
+use Rattle.laws.specs.DefinitionRuns.{impl-function-words, implementation-words, GoodParam, GoodMessage, GoodAlias, GoodReturn, GoodTraitFunction, GoodTrait}
+use Rattle.laws.specs.DefinitionRuns.{GoodFunction, GoodImpl}
 
 pub few-exact : {A : Type 0} {r : Reader A} {words : A → List ℕ} {Good : A → Type 0} → Exact r words Good → (most : ℕ) → Exact (many most r) (listed words) (Few most Good)
 few-exact e most = record {
@@ -65,9 +67,9 @@ module _ (names : ℕ) where
     gives = gives.below-then (λ c l. gives.cond-gives (eqb c 0)
         (λ e. gives.give-gives _ _ (record { is = ap own (eqb-true c 0 e); good = tt }))
         (λ a. gives.cond-gives (eqb c 1)
-            (λ e. gives.last-gives _ (type-exact names .gives) (λ t ws h. record { is = ap₂ _∷_ (eqb-true c 1 e) (h .is); good = h .good }))
-            (λ b. let two : c ≡ 2 = omega (arith, eqb-false c 0 a, eqb-false c 1 b) in
-                gives.last-gives _ (type-expr-exact names .gives) (λ t ws h. record { is = ap₂ _∷_ two (h .is); good = h .good }))));
+        (λ e. gives.last-gives _ (type-exact names .gives) (λ t ws h. record { is = ap₂ _∷_ (eqb-true c 1 e) (h .is); good = h .good }))
+        (λ b. let two : c ≡ 2 = omega (arith, eqb-false c 0 a, eqb-false c 1 b) in
+        gives.last-gives _ (type-expr-exact names .gives) (λ t ws h. record { is = ap₂ _∷_ two (h .is); good = h .good }))));
   }
 
   pub trait-function-exact : Exact (trait-function names) trait-function-words (GoodTraitFunction names)
@@ -89,11 +91,13 @@ module _ (names : ℕ) where
         reads = λ t g. below-then _ (g .name) (then-reads _ (params .reads (t .type-params) (g .type-params))
             (end-reads _ (functions .reads (t .functions) (g .functions)) (rule-reads _ _ (g .different) (give-reads _))));
         gives = gives.below-then (λ n l. gives.then-gives (params .gives) (λ ps vs h. gives.end-gives _ (functions .gives) (λ fs ws i.
-            gives.rule-then _ _ (λ e. gives.give-gives _ _
-            (refl, record {
-              is = ap (λ (l : List ℕ). n ∷ l) (ap₂ _++_ (h .is) (i .is));
-              good = record { name = l; type-params = h .good; functions = i .good; different = e };
-            })))));
+            gives.rule-then _ _ (λ e. gives.give-gives _ _ (
+              refl,
+              record {
+                is = ap (λ (l : List ℕ). n ∷ l) (ap₂ _++_ (h .is) (i .is));
+                good = record { name = l; type-params = h .good; functions = i .good; different = e };
+              },
+            )))));
       }
 
 -- over the number of string rows besides

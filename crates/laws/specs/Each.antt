@@ -21,3 +21,11 @@ pub then-any : {A B : Type 0} (Q : B → Type 0) (o : Option A) (f : A → Optio
 unfolding then
 then-any Q none f g = tt
 then-any Q (some a) f g = g a
+
+pub map-all : {A : Type 0} {P Q : A → Type 0} → ((a : A) → P a → Q a) → (xs : List A) → All P xs → All Q xs
+map-all f [] h = tt
+map-all f (x ∷ xs) h = (f x (h .0), map-all f xs (h .1))
+
+pub map-option : {A : Type 0} {P Q : A → Type 0} → ((a : A) → P a → Q a) → (o : Option A) → AllOption P o → AllOption Q o
+map-option f none h = tt
+map-option f (some a) h = f a h

@@ -1,3 +1,4 @@
+pub mod Clash
 pub mod Good
 pub mod Each
 pub mod Reads
@@ -7,6 +8,7 @@ pub mod Codes
 pub mod Types
 pub mod Same
 pub mod TypeExprs
+pub mod Counts
 pub mod Visits
 pub mod Depth
 pub mod Widths
@@ -20,3 +22,4 @@ pub mod Substitution
 pub mod Schema
 pub mod Typed
 pub mod TypedRuns
+pub mod MoreNames

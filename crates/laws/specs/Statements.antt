@@ -69,5 +69,5 @@ module _ (names strings : ℕ) where
     gives = gives.below-then (λ c l. gives.cond-gives (eqb c 0)
         (λ e. gives.give-gives _ _ (record { is = ap (λ (w : ℕ). w ∷ []) (eqb-true c 0 e); good = tt }))
         (λ e. let one : c ≡ 1 = omega (arith, eqb-false c 0 e) in
-            gives.so block-gives (λ b ws h. subst (λ (b : FnBody). Run body-words (GoodBody names strings) b (c ∷ ws)) (sym (h .1)) (record { is = ap₂ _∷_ one (h .2); good = h .3 }))));
+        gives.so block-gives (λ b ws h. subst (λ (b : FnBody). Run body-words (GoodBody names strings) b (c ∷ ws)) (sym (h .1)) (record { is = ap₂ _∷_ one (h .2); good = h .3 }))));
   }

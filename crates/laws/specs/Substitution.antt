@@ -1,6 +1,6 @@
 -- What substitution gives: visits between 1 and 1,024, a run of at most 64 words, and a good type where all that it reads is good.
 use Prim.Native.Nat.{ℕ, zero, suc, _≤_, _<_}
-use mathlib.Core.Path.{_≡_, refl, subst}
+use mathlib.Core.Path.{_≡_, refl}
 use mathlib.Core.Bool.{Bool, true, false, cond}
 use mathlib.Core.List.{List, [], _∷_}
 use mathlib.Core.Option.{Option, none, some}
@@ -13,29 +13,13 @@ use Rattle.rules.specs.Kinds.{type-kind}
 use Rattle.rules.specs.declared.kinds.TypeKind.{TypeKind}
 use Rattle.rules.specs.Options.{then, or, or-else}
 use Rattle.rules.specs.Types.{POISON}
-use Rattle.rules.specs.Substitute.{Counted, too-large, done, after, bounded, primitive, find-param, one-parameter, lookup, lookup-primitive-alias, lookup-alias, lookup-qualified, named-or-poison, resolve-name, expand, substitute-node, substitute-depth, substitute-type}
+use Rattle.rules.specs.Substitute.{Counted, too-large, done, bounded, primitive, find-param, one-parameter, lookup, lookup-primitive-alias, lookup-alias}
+use Rattle.rules.specs.Substitute.{lookup-qualified, named-or-poison, resolve-name, expand, substitute-node, substitute-depth, substitute-type}
 use Rattle.laws.specs.Good.{All, AllOption, Good, GoodExpr}
+use Rattle.laws.specs.Counts.{Counts, too-large-counts, done-counts, after-counts, any-counts}
 use Rattle.laws.specs.Each.{at-all, then-all, then-any}
+use Rattle.laws.specs.Visits.{Rec}
 use Rattle.laws.specs.GoodSchema.{GoodSchema, GoodDefinition}
-
--- what holds of a result and its visits
-pub record Counts {A : Type 0} (o : Counted A) (P : ℕ → A → Type 0) : Type 0 where
-  pub holds : (v : ℕ) (a : A) → o ≡ done v a → P v a
-
-pub too-large-counts : {A : Type 0} {P : ℕ → A → Type 0} → Counts too-large P
-too-large-counts = record { holds = λ v a e. absurd (let z : _≡_ {A = ℕ} 0 1 = cc in omega arith) }
-
-pub done-counts : {A : Type 0} (P : ℕ → A → Type 0) (v : ℕ) (a : A) → P v a → Counts (done v a) P
-done-counts {A} P v a p = record { holds = λ w b e. let m : v ≡ w = cc in let n : a ≡ b = cc in subst (λ (x : ℕ). P x b) m (subst (λ (x : A). P v x) n p) }
-
-pub after-counts : {A B : Type 0} {o : Counted A} {k : ℕ → A → Counted B} {P : ℕ → A → Type 0} {Q : ℕ → B → Type 0}
-    → Counts o P → ((v : ℕ) (a : A) → P v a → Counts (k v a) Q) → Counts (after o k) Q
-unfolding after
-after-counts {A} {B} {o} {k} {P} {Q} h g = go o (h .holds)
-  where
-    go : (o : Counted A) → ((v : ℕ) (a : A) → o ≡ done v a → P v a) → Counts (after o k) Q
-    go too-large h = too-large-counts
-    go (done v a) h = g v a (h v a refl)
 
 -- visits and run as they are accepted
 pub record Accepted (v : ℕ) (t : ResolvedType) : Type 0 where
@@ -118,7 +102,8 @@ module _ (names : ℕ) where
     one-parameter-good strings (TypeDef.message m) g = tt
     one-parameter-good strings (TypeDef.generic-alias a) g = go (a .type-params)
       where
-        go : (xs : List ℕ) → AllOption GoodTarget (elim xs as (λ _. Option (Param TypeExpr)) [ [] ↦ none | x ∷ xs ↦ elim xs as (λ _. Option (Param TypeExpr)) [ [] ↦ some (record { name = x; ty = a .target-type }) | y ∷ ys ↦ none ] ])
+        go : (xs : List ℕ)
+            → AllOption GoodTarget (elim xs as (λ _. Option (Param TypeExpr)) [ [] ↦ none | x ∷ xs ↦ elim xs as (λ _. Option (Param TypeExpr)) [ [] ↦ some (record { name = x; ty = a .target-type }) | y ∷ ys ↦ none ] ])
         go [] = tt
         go (x ∷ []) = g .target-type .good
         go (x ∷ y ∷ ys) = tt
@@ -131,14 +116,7 @@ module _ (names : ℕ) where
         then-any GoodTarget (lookup schema x) _ (λ n.
         then-all (GoodDefinition names strings) GoodTarget (getElem? (schema .definitions) n) one-parameter (at-all (GoodDefinition names strings) (schema .definitions) n (s .definitions-good)) (one-parameter-good strings))
 
--- nothing need be known of a part
-any-counts : {A : Type 0} {o : Counted A} → Counts o (λ v a. Unit {0})
-any-counts = record { holds = λ v a e. tt }
-
 module _ (schema : CompiledSchema) where
-  abbrev Rec : Type 0
-  Rec = List (Param ResolvedType) → TypeExpr → Counted ResolvedType
-
   bounded-accepted : (v : ℕ) (t : ResolvedType) → 1 ≤ v → Counts (bounded v t) Accepted
   bounded-accepted v t l = record { holds = λ w u e. bounded-counts (λ _. Unit {0}) v t l tt .holds w u e .0 }
 
@@ -171,17 +149,17 @@ module _ (names strings : ℕ) (schema : CompiledSchema) (s : GoodSchema names s
   abbrev Result : ℕ → ResolvedType → Type 0
   Result v t = Accepted v t × Good names t
 
-  abbrev AllGood : Rec schema → Type 0
+  abbrev AllGood : Rec → Type 0
   AllGood r = (ps : List (Param ResolvedType)) (e : TypeExpr) → All (GoodArgument names) ps → GoodExpr names e → Counts (r ps e) Result
 
-  expand-good : (r : Rec schema) → AllGood r → (ps : List (Param ResolvedType)) (a : TypeExpr) (o : Option (Param TypeExpr)) → All (GoodArgument names) ps → GoodExpr names a
+  expand-good : (r : Rec) → AllGood r → (ps : List (Param ResolvedType)) (a : TypeExpr) (o : Option (Param TypeExpr)) → All (GoodArgument names) ps → GoodExpr names a
       → AllOption (GoodTarget names) o → Counts (expand schema r ps a o) Result
   unfolding expand
   expand-good r ih ps a none h g k = bounded-counts (Good names) 1 POISON (omega arith) tt
   expand-good r ih ps a (some alias) h g k =
       after-counts (ih ps a h g) (λ v t p. after-counts (ih _ (alias .ty) (p .1, tt) k) (λ w u q. bounded-counts (Good names) _ u (omega arith) (q .1)))
 
-  node-good : (r : Rec schema) → AllGood r → AllGood (substitute-node schema r)
+  node-good : (r : Rec) → AllGood r → AllGood (substitute-node schema r)
   unfolding substitute-node
   node-good r ih ps (TypeExpr.leaf t) h g = bounded-counts (Good names) 1 t (omega arith) (g .1)
   node-good r ih ps (TypeExpr.named x) h g = bounded-counts (Good names) 1 _ (omega arith) (resolve-good names schema ps x h)
