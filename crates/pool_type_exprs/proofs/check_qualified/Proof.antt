@@ -1,3 +1,4 @@
+-- `pool_type_exprs::check_qualified` meets its contract: the answers follow the reader's steps.
 use borrow.Author.Tests.{not-true, not-false}
 use Rattle.rules.specs.ReadTypes.{type-expr-node}
 use Rattle.reading.specs.Says.{then, stop, last}

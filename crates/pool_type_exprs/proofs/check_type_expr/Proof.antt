@@ -1,3 +1,4 @@
+-- `pool_type_exprs::check_type_expr` meets its contract: the answers follow the reader's steps.
 use native.Mathlib.Omega.{arith}
 use borrow.Author.Tests.{not-true, not-false}
 use Rattle.rules.specs.ReadTypes.{type-expr}

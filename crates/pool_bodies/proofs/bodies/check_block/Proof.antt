@@ -1,3 +1,4 @@
+-- `pool_bodies::bodies::check_block` meets its contract: each turn leaves one statement less, and its Let is counted.
 use borrow.Author.Needs.{needs}
 use Prim.Native.Nat.{_-_, _≤_}
 use native.Mathlib.Omega.{arith}

@@ -1,3 +1,4 @@
+-- `pool_bodies::bodies::check_body` meets its contract: the answers follow the reader's steps.
 use borrow.Author.Tests.{not-true, not-false}
 use Rattle.pool_bodies.proofs.Blocks.{body-stop, body-external, body-block}
 use borrow.Author.Needs.{needs}

@@ -1,3 +1,4 @@
+-- `pool_bodies::expressions::check_call`, `pool_bodies::expressions::check_expr`, `pool_bodies::expressions::check_exprs`, `pool_bodies::expressions::check_method`, `pool_bodies::expressions::check_operand` meet their contracts: each arm is a step of the reader behind its code; the level falls.
 use borrow.Author.Needs.{needs}
 use mathlib.Core.Path.{_≡_, sym, _∙_}
 use denote.Ref.{now}

@@ -1,3 +1,4 @@
+-- `pool_bodies::expressions::check_expression` meets its contract: the answers follow the reader's steps.
 use Rattle.rules.specs.ReadBodies.{expression}
 use borrow.Author.Needs.{needs}
 use Rattle.pool_bodies.proofs.expressions.check_expression.Statement.{statement}

@@ -1,3 +1,4 @@
+-- `pool_bodies::expressions::check_maybe_expression` meets its contract: the answers follow the reader's steps.
 use borrow.Author.Tests.{not-true, not-false}
 use Rattle.reading.specs.Says.{maybe-stop, maybe-none, maybe-some}
 use borrow.Author.Needs.{needs}

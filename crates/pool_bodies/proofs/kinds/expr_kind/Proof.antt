@@ -1,3 +1,4 @@
+-- `pool_bodies::kinds::expr_kind` meets its contract: the tests down the chain of codes.
 use borrow.Author.Tests.{lt-ltb, le-ltb, ne-eqb}
 use Rattle.rules.specs.Kinds.{expr-kind}
 use Rattle.pool_bodies.proofs.kinds.expr_kind.Statement.{statement}

@@ -1,3 +1,4 @@
+-- `pool_bodies::kinds::statement_kind` meets its contract: the tests down the chain of codes.
 use borrow.Author.Tests.{ne-eqb}
 use Rattle.rules.specs.Kinds.{statement-kind}
 use Rattle.pool_bodies.proofs.kinds.statement_kind.Statement.{statement}

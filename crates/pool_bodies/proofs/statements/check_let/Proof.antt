@@ -1,3 +1,4 @@
+-- `pool_bodies::statements::check_let` meets its contract: the answers follow the reader's steps.
 use borrow.Author.Tests.{not-true, not-false}
 use Rattle.rules.specs.ReadBodies.{statement-node}
 use Rattle.reading.specs.Says.{then, stop, last}

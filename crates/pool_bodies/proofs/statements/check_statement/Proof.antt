@@ -1,3 +1,4 @@
+-- `pool_bodies::statements::check_statement` meets its contract: the answers follow the reader's steps.
 use mathlib.Core.Path.{sym, _∙_}
 use borrow.Author.Tests.{not-true, not-false}
 use Rattle.rules.specs.ReadBodies.{statement-node}

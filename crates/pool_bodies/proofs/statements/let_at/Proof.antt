@@ -1,3 +1,4 @@
+-- `pool_bodies::statements::let_at` meets its contract: the answers follow the reader's steps.
 use native.Mathlib.Omega.{arith}
 use mathlib.Core.Path.{sym, ap, _∙_}
 use Rattle.rules.specs.Kinds.{statement-kind}

@@ -1,3 +1,4 @@
+-- `pool_definitions::implementations::check_impl_function` meets its contract: the answers follow the reader's steps.
 use borrow.Author.Tests.{not-true, not-false}
 use Rattle.rules.specs.ReadDefinitions.{impl-function}
 use Rattle.reading.specs.Says.{then, stop, last}

@@ -1,3 +1,4 @@
+-- `pool_definitions::implementations::check_impl_functions` meets its contract: each turn leaves one reading less.
 use borrow.Author.Needs.{needs}
 use Prim.Native.Nat.{_-_}
 use borrow.Author.Tests.{not-true, not-false}

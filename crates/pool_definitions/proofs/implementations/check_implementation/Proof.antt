@@ -1,3 +1,4 @@
+-- `pool_definitions::implementations::check_implementation` meets its contract: the answers follow the reader's steps.
 use borrow.Author.Tests.{not-true, not-false}
 use Rattle.rules.specs.ReadDefinitions.{implementation}
 use Rattle.reading.specs.Says.{then, stop, last}

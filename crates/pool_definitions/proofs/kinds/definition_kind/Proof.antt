@@ -1,3 +1,4 @@
+-- `pool_definitions::kinds::definition_kind` meets its contract: the tests down the chain of codes.
 use borrow.Author.Tests.{ne-eqb}
 use Rattle.rules.specs.Kinds.{definition-kind}
 use Rattle.pool_definitions.proofs.kinds.definition_kind.Statement.{statement}

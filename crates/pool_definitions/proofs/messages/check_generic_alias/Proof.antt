@@ -1,3 +1,4 @@
+-- `pool_definitions::messages::check_generic_alias` meets its contract: the answers follow the reader's steps.
 use borrow.Author.Tests.{not-true, not-false}
 use Rattle.rules.specs.ReadDefinitions.{generic-alias}
 use Rattle.reading.specs.Says.{then, stop, last}

@@ -1,3 +1,4 @@
+-- `pool_definitions::messages::check_message` meets its contract: the answers follow the reader's steps.
 use Rattle.rules.specs.ReadDefinitions.{message}
 use Rattle.reading.specs.Says.{last}
 use borrow.Author.Needs.{needs}

@@ -1,3 +1,4 @@
+-- `pool_definitions::traits::check_trait` meets its contract: the answers follow the reader's steps.
 use borrow.Author.Tests.{not-true, not-false}
 use Rattle.rules.specs.ReadDefinitions.{trait}
 use Rattle.reading.specs.Says.{then, stop}

@@ -1,3 +1,4 @@
+-- `pool_definitions::traits::check_trait_functions` meets its contract: each turn leaves one function less, and its name is kept.
 use borrow.Author.Needs.{needs}
 use Prim.Native.Nat.{_-_, _≤_, _<_}
 use mathlib.Core.Path.{_≡_, sym, ap, _∙_}

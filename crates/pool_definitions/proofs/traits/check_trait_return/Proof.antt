@@ -1,3 +1,4 @@
+-- `pool_definitions::traits::check_trait_return` meets its contract: the answers follow the reader's steps.
 use borrow.Author.Tests.{not-true, not-false}
 use Rattle.pool_definitions.proofs.TraitLoop.{return-refused, return-none, return-resolved, return-expression}
 use borrow.Author.Needs.{needs}

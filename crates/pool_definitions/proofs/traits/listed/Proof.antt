@@ -1,3 +1,4 @@
+-- `pool_definitions::traits::listed` meets its contract: no number passed was the one looked for.
 use borrow.Author.Needs.{needs}
 use Prim.Native.Nat.{_-_, _≤_}
 use mathlib.Core.Path.{_≡_, sym, ap, _∙_}

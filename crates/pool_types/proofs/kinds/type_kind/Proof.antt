@@ -1,3 +1,4 @@
+-- `pool_types::kinds::type_kind` meets its contract: the tests down the chain of codes.
 use borrow.Author.Tests.{lt-ltb, le-ltb, ne-eqb}
 use Rattle.rules.specs.Kinds.{type-kind}
 use Rattle.pool_types.proofs.kinds.type_kind.Statement.{statement}

@@ -1,3 +1,4 @@
+-- `pool_types::parts::check_bits` meets its contract: the answers follow the reader's steps.
 use Rattle.rules.specs.ReadTypes.{bits-inline}
 use Rattle.reading.specs.Says.{last}
 use borrow.Author.Needs.{needs}

@@ -1,3 +1,4 @@
+-- `pool_types::parts::check_sub` meets its contract: the answers follow the reader's steps.
 use borrow.Author.Tests.{not-true, not-false}
 use Rattle.rules.specs.ReadTypes.{sub-byte}
 use Rattle.reading.specs.Says.{then, stop, word-then, rule-then, rule-stop, given}

@@ -1,3 +1,4 @@
+-- `pool_types::parts::check_wide` meets its contract: the answers follow the reader's steps.
 use borrow.Author.Tests.{not-true, not-false}
 use Rattle.rules.specs.ReadTypes.{wide}
 use Rattle.reading.specs.Says.{then, stop, last}

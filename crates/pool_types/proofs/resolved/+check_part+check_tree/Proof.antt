@@ -1,3 +1,4 @@
+-- `pool_types::resolved::check_part`, `pool_types::resolved::check_tree` meet their contracts: each arm is a step of the reader behind its code; the level falls.
 use borrow.Author.Needs.{needs}
 use mathlib.Core.Path.{_≡_, sym, _∙_}
 use Prim.Native.Nat.{_-_, _+_, _*_}

@@ -1,3 +1,4 @@
+-- `pool_types::resolved::check_maybe_type` meets its contract: the answers follow the reader's steps.
 use borrow.Author.Tests.{not-true, not-false}
 use Rattle.reading.specs.Says.{maybe-stop, maybe-none, maybe-some}
 use borrow.Author.Needs.{needs}

@@ -1,3 +1,4 @@
+-- `pool_types::resolved::check_type` meets its contract: the answers follow the reader's steps.
 use native.Mathlib.Omega.{arith}
 use borrow.Author.Tests.{not-true, not-false}
 use Rattle.rules.specs.ReadTypes.{resolved-type}
