@@ -73,12 +73,13 @@ pub fn resolve_name(image: &[u8], l: Layout, params: &[u32], x: NameId) -> HeldT
     if a.some {
         return a.ty;
     }
-    let d = lookup(image, l, x);
+    let named = HeldType::named(lookup(image, l, x));
     let p = lookup_primitive_alias(image, l, x);
+    let primitive = p.ty;
     if p.some {
-        return p.ty;
+        return primitive;
     }
-    HeldType::named(d)
+    named
 }
 
 // The definition or the Named alias of the name with the text namespace, ".", name; else poison.

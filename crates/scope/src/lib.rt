@@ -2,9 +2,10 @@
 use held::types::HeldType;
 use held::types::MaybeType;
 use rules::ids::NameId;
-ghost use Prim.Native.Nat.{ℕ, _+_, _≤_};
+ghost use Prim.Native.Nat.{ℕ, _+_, _*_, _≤_};
+ghost use mathlib.Core.Path.{_≡_};
 ghost use mathlib.Core.List.{List};
-ghost use lib.ListN.{length};
+ghost use lib.ListN.{length, take};
 ghost use Rattle.rules.specs.Syntax.{ResolvedType, Param};
 ghost use Rattle.rules.specs.Substitute.{find-param};
 ghost use Rattle.held.specs.Holds.{Holds, MaybeHolds};
@@ -58,4 +59,13 @@ pub fn write_row(table: &mut [u32], at: usize, name: NameId, ty: HeldType)
         table[at + 2 + i] = words[i];
         i += 1;
     }
+}
+
+// The first n rows of a table.
+pub fn rows(table: &[u32], n: usize) -> &[u32]
+    requires { ⌜ 66 * n ≤ length (now table) ⌝ }
+    ensures { λ r. ⌜ now r ≡ take (66 * n) (now (table .entry)) ⌝ }
+{
+    let end = 66 * n;
+    &table[..end]
 }

@@ -100,9 +100,10 @@ fn expand(image: &[u8], l: Layout, at: usize, left: u32, params: &[u32]) -> Reso
     let argument = a.ty;
     let mut own = [0u32; 66];
     scope::write_row(&mut own, 0, alias.param, argument);
+    let view = scope::rows(&own, 1);
     let target = alias.target;
     let rest = a.left;
-    let b = substitute_type(image, l, target, rest, &own);
+    let b = substitute_type(image, l, target, rest, view);
     let ty = b.ty;
     Resolved {
         ok: b.ok,

@@ -82,7 +82,7 @@ pub fn poison(image: &[u8], l: Layout, at: usize, left: u32) -> Resolved
     let names = l.names;
     let c = pool_types::expressions::check_type_expr(image, pool, at, names.rows);
     Resolved {
-        ok: true,
+        ok: true, // whatever the argument would come to
         next: c.next,
         left,
         ty: HeldType::named(TypeId::POISON),

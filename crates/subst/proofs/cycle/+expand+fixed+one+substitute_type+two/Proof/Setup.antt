@@ -8,6 +8,7 @@ use Rattle.held.proofs.types.HeldType.two.Reads as two-reads
 use Rattle.kinds.proofs.type_kind.Reads as type-kind-reads
 use Rattle.lookups.proofs.generic.lookup_alias.Reads as lookup-alias-reads
 use Rattle.reading.proofs.section_word.Reads as section-word-reads
+use Rattle.scope.proofs.rows.Reads as rows-reads
 use Rattle.scope.proofs.write_row.Reads as write-row-reads
 use Rattle.subst.proofs.cycle.expand.Reads as expand
 use Rattle.subst.proofs.cycle.expand.Kinds as expand-kinds
@@ -87,7 +88,7 @@ two-below t = and 2 two-kinds.ps (falls 2 two-kinds.ps _<_ μ-two t) two.Pre
 
 -- what expand knows of the functions that it calls
 abbrev pub expand-calls : ℕ → expand-lts.Claims
-expand-calls t = (section-word-reads.Asked, section-word-reads.Learnt, lookup-alias-reads.Asked, lookup-alias-reads.Learnt, poison-reads.Asked, poison-reads.Learnt, substitute-type-below t, substitute-type.Post, write-row-reads.Asked, write-row-reads.Learnt)
+expand-calls t = (section-word-reads.Asked, section-word-reads.Learnt, lookup-alias-reads.Asked, lookup-alias-reads.Learnt, poison-reads.Asked, poison-reads.Learnt, substitute-type-below t, substitute-type.Post, write-row-reads.Asked, write-row-reads.Learnt, rows-reads.Asked, rows-reads.Learnt)
 
 -- what fixed knows of the functions that it calls
 abbrev pub fixed-calls : ℕ → fixed-lts.Claims
