@@ -1,4 +1,4 @@
-// Type parameters in view with their arguments: a lent table, a row of 66 words for each.
+// Type parameters in view with their arguments: a lent table, a row for each.
 use held::types::HeldType;
 use held::types::MaybeType;
 use rules::ids::NameId;
@@ -11,11 +11,14 @@ ghost use Rattle.rules.specs.Substitute.{find-param};
 ghost use Rattle.held.specs.Holds.{Holds, MaybeHolds};
 ghost use Rattle.scope.specs.Views.{Row, Views, Written};
 
+// A row: the parameter's name, the count of its argument's words, and 64 words.
+pub const ROW: usize = 66;
+
 // The argument that a row holds.
 fn argument(table: &[u32], at: usize) -> HeldType
     ensures { λ r. ⌜ ((names : ℕ) (p : Param ResolvedType) → Row names (now (table .entry)) at p → Holds names r (p .ty)) ⌝ }
 {
-    if reading::less(table.len(), at) < 66 {
+    if reading::less(table.len(), at) < ROW {
         return HeldType::empty();
     }
     let n = table[at + 1] as usize;
@@ -40,7 +43,7 @@ pub fn find_param(table: &[u32], x: NameId) -> MaybeType
         if table[at] == x.0 {
             return MaybeType::some(argument(table, at));
         }
-        at += 66;
+        at += ROW;
     }
     MaybeType::none()
 }
@@ -66,6 +69,6 @@ pub fn rows(table: &[u32], n: usize) -> &[u32]
     requires { ⌜ 66 * n ≤ length (now table) ⌝ }
     ensures { λ r. ⌜ now r ≡ take (66 * n) (now (table .entry)) ⌝ }
 {
-    let end = 66 * n;
+    let end = ROW * n;
     &table[..end]
 }

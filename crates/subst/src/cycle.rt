@@ -5,7 +5,7 @@ use held::types::HeldType;
 use layout::Layout;
 use rules::ids::NameId;
 use rules::kinds::TypeKind;
-ghost use Prim.Native.Nat.{ℕ, _≤_, _<_};
+ghost use Prim.Native.Nat.{_<_};
 ghost use Rattle.layout.specs.Rows.{Cut};
 ghost use Rattle.subst.specs.Says.{Keeps};
 ghost use Rattle.subst.specs.Nodes.{Substitutes, Ones, Fixeds, Twos, Generics};
@@ -98,7 +98,7 @@ fn expand(image: &[u8], l: Layout, at: usize, left: u32, params: &[u32]) -> Reso
         return a;
     }
     let argument = a.ty;
-    let mut own = [0u32; 66];
+    let mut own = [0u32; scope::ROW];
     scope::write_row(&mut own, 0, alias.param, argument);
     let view = scope::rows(&own, 1);
     let target = alias.target;

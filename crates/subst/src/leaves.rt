@@ -3,7 +3,7 @@ use held::types::HeldType;
 use layout::Layout;
 use rules::ids::NameId;
 use rules::ids::TypeId;
-ghost use Prim.Native.Nat.{ℕ, _≤_, _<_};
+ghost use Prim.Native.Nat.{_<_};
 ghost use mathlib.Core.Path.{_≡_};
 ghost use mathlib.Core.Bool.{false};
 ghost use Rattle.layout.specs.Rows.{Inside, Cut};
