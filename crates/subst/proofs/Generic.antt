@@ -16,7 +16,8 @@ use Rattle.held.specs.Holds.{Holds}
 use Rattle.scope.specs.Views.{Views, Written}
 use Rattle.scope.specs.Tables.{Rows-to, rows-more, views-taken}
 use Rattle.lookups.specs.declared.generic.Alias.{Alias}
-use Rattle.lookups.specs.Aliases.{Expr-stands, IsAlias}
+use Rattle.stored.specs.Held.{Expr-stands}
+use Rattle.lookups.specs.Aliases.{IsAlias}
 
 module _ (s : CompiledSchema) (rec : Rec) (ps : List (Param ResolvedType)) (x : ℕ) (a : TypeExpr) where
   pub is-poison : lookup-alias s x ≡ none → plain-node s rec ps (TypeExpr.generic x a) ≡ short 1 POISON

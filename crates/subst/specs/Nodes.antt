@@ -8,7 +8,7 @@ use Rattle.laws.specs.Visits.{short, plain-node, plain-depth}
 use Rattle.layout.specs.declared.Layout.{Layout}
 use Rattle.layout.specs.Open.{Open, pool-words}
 use Rattle.scope.specs.Views.{Views}
-use Rattle.lookups.specs.Aliases.{Expr-stands}
+use Rattle.stored.specs.Held.{Expr-stands}
 use Rattle.subst.specs.declared.leaves.Resolved.{Resolved}
 use Rattle.subst.specs.Says.{Says}
 

@@ -9,7 +9,7 @@ use Rattle.laws.specs.Visits.{plain-node, plain-depth}
 use Rattle.layout.specs.Open.{pool-words}
 use Rattle.held.specs.Runs.{held-run, Grows}
 use Rattle.held.proofs.Trees.{two-built}
-use Rattle.lookups.specs.Aliases.{Expr-stands}
+use Rattle.stored.specs.Held.{Expr-stands}
 use Rattle.subst.proofs.Parts.{two-stands}
 use Rattle.subst.proofs.Steps.{two-stop, two-stop-second, two-end}
 use Rattle.subst.proofs.cycle.two.Reads as two
