@@ -1,5 +1,5 @@
--- Laws of codes and of held types.
-pub mod Codes
+-- Laws of held types.
 pub mod Runs
 pub mod Trees
 pub mod Bounded
+pub mod Maybe

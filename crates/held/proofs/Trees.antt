@@ -1,10 +1,7 @@
 -- Held trees: what the makers of held types give, as types of the rules. Assumes nothing.
-use Prim.Native.Nat.{ℕ, _≤_, _<_}
-use mathlib.Core.Path.{_≡_, refl, sym, ap, ap₂, _∙_}
-use mathlib.Core.Bool.{Bool, true, false}
+use Prim.Native.Nat.{ℕ}
+use mathlib.Core.Path.{_≡_, ap, ap₂}
 use mathlib.Core.List.{List, [], _∷_, _++_}
-use lib.ListN.{length}
-use Rattle.rules.specs.Syntax as Syntax
 use Rattle.rules.specs.Syntax.{ResolvedType, run}
 use Rattle.rules.specs.Kinds.{type-kind}
 use Rattle.rules.specs.declared.kinds.TypeKind.{TypeKind}
@@ -15,12 +12,9 @@ use Rattle.held.specs.Runs.{held-run, Runs, Grows}
 use Rattle.held.specs.Holds.{Holds, Built}
 use Rattle.held.proofs.Runs.{grows-at}
 
--- a run of a good type is the type held, and the other way round
+-- a run of a good type is the type held
 pub holds : (names : ℕ) {h : HeldType} {t : ResolvedType} → Runs h (run t) → Good names t → Holds names h t
 holds names r g = record { run = r .run; count = r .count; small = r .small; good = g }
-
-pub runs : {names : ℕ} {h : HeldType} {t : ResolvedType} → Holds names h t → Runs h (run t)
-runs p = record { run = p .run; count = p .count; small = p .small }
 
 pub built : (names : ℕ) (t : ResolvedType) {r : Grown} → Grows (run t) r → Good names t → Built names r t
 built names t g good = record { ok = g .ok; holds = λ e. holds names (g .runs e) good }

@@ -33,3 +33,7 @@ pub record Built (names : ℕ) (r : Grown) (t : ResolvedType) : Type 0 where
 -- a property of every type that h holds
 abbrev pub Each : HeldType → (ResolvedType → Type 0) → Type 0
 Each h P = (names : ℕ) (t : ResolvedType) → Holds names h t → P t
+
+-- a property of every optional type that m holds
+abbrev pub EachMaybe : MaybeType → (ℕ → Option ResolvedType → Type 0) → Type 0
+EachMaybe m P = (names : ℕ) (o : Option ResolvedType) → MaybeHolds names m o → P names o

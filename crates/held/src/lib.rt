@@ -1,3 +1,2 @@
 // A resolved type, held as its words in prefix order with their count, and the few functions that make one.
-pub mod kinds;
 pub mod types;

@@ -1,14 +1,14 @@
 -- What holds of a counted result and its visits. A law for each step.
 use Prim.Native.Nat.{ℕ}
 use mathlib.Core.Path.{_≡_, refl, subst}
-use native.Mathlib.Omega.{arith}
 use Rattle.rules.specs.Substitute.{Counted, too-large, done, after}
+use Rattle.laws.specs.Clash.{clash}
 
 pub record Counts {A : Type 0} (o : Counted A) (P : ℕ → A → Type 0) : Type 0 where
   pub holds : (v : ℕ) (a : A) → o ≡ done v a → P v a
 
 pub too-large-counts : {A : Type 0} {P : ℕ → A → Type 0} → Counts too-large P
-too-large-counts = record { holds = λ v a e. absurd (let z : _≡_ {A = ℕ} 0 1 = cc in omega arith) }
+too-large-counts = record { holds = λ v a e. clash (cc) }
 
 pub done-counts : {A : Type 0} (P : ℕ → A → Type 0) (v : ℕ) (a : A) → P v a → Counts (done v a) P
 done-counts {A} P v a p = record { holds = λ w b e. let m : v ≡ w = cc in let n : a ≡ b = cc in subst (λ (x : ℕ). P x b) m (subst (λ (x : A). P v x) n p) }

@@ -16,7 +16,9 @@ use Rattle.laws.specs.Exact.{Exact, below-exact, many-exact, maybe-exact
 use Rattle.laws.specs.Types.{type-exact}
 use Rattle.laws.specs.TypeExprs.{type-expr-exact}
 use Rattle.laws.specs.Statements.{body-exact}
-use Rattle.laws.specs.DefinitionRuns.{Few, own, typed-words, message-words, generic-alias-words, trait-return-words, trait-function-words, trait-words, impl-function-words, implementation-words, GoodParam, GoodMessage, GoodAlias, GoodReturn, GoodTraitFunction, GoodTrait, GoodFunction, GoodImpl}
+use Rattle.laws.specs.DefinitionRuns.{Few, own, typed-words, message-words, generic-alias-words, trait-return-words, trait-function-words, trait-words}
+use Rattle.laws.specs.DefinitionRuns.{impl-function-words, implementation-words, GoodParam, GoodMessage, GoodAlias, GoodReturn, GoodTraitFunction, GoodTrait}
+use Rattle.laws.specs.DefinitionRuns.{GoodFunction, GoodImpl}
 
 pub few-exact : {A : Type 0} {r : Reader A} {words : A → List ℕ} {Good : A → Type 0} → Exact r words Good → (most : ℕ) → Exact (many most r) (listed words) (Few most Good)
 few-exact e most = record {

@@ -10,6 +10,7 @@ use lib.Dec.{leb}
 use borrow.Author.Tests.{le-leb, lt-leb, leb-true, leb-false}
 use Rattle.rules.specs.Syntax.{ResolvedType, TypeExpr, run, Param, CompiledSchema}
 use Rattle.rules.specs.Substitute.{Counted, too-large, done, after, lookup-alias, substitute-depth, substitute-type}
+use Rattle.laws.specs.Clash.{clash}
 use Rattle.laws.specs.Counts.{Counts, too-large-counts, after-counts, any-counts}
 use Rattle.laws.specs.Visits.{Rec, cut, short, plain-expand, plain-node, plain-depth, compared-once}
 
@@ -21,7 +22,7 @@ pub record Parts {A B : Type 0} (o : Counted A) (k : ℕ → A → Counted B) (v
 
 parts : {A B : Type 0} (o : Counted A) (k : ℕ → A → Counted B) (v : ℕ) (b : B) → after o k ≡ done v b → Parts o k v b
 unfolding after
-parts too-large k v b e = absurd (let z : _≡_ {A = ℕ} 0 1 = cc in omega arith)
+parts too-large k v b e = clash (cc)
 parts (done x a) k v b e = record { visits = x; value = a; first = refl; second = e }
 
 -- joined again
@@ -35,7 +36,7 @@ short-visits n x v t e = go (leb (length (run x)) 64) e
   where
     go : (b : Bool) → _≡_ {A = Counted ResolvedType} (elim b as (λ _. Counted ResolvedType) [ true ↦ done n x | false ↦ too-large ]) (done v t) → n ≡ v
     go true e = cc
-    go false e = absurd (let z : _≡_ {A = ℕ} 0 1 = cc in omega arith)
+    go false e = clash (cc)
 
 short-counts : (n : ℕ) (x : ResolvedType) → 1 ≤ n → Counts (short n x) (λ v t. 1 ≤ v)
 short-counts n x l = record { holds = λ v t e. omega (arith, short-visits n x v t e) }
@@ -71,7 +72,7 @@ cut-nothing o (done w u) c n = go (leb w 1024) refl
 
 -- results that agree up to 1,024 visits
 same-cut : (o p : Counted ResolvedType) → Covers o p → Covers p o → cut o ≡ cut p
-same-cut too-large p c d = cut-none ∙ sym (cut-nothing too-large p c (λ v t e. absurd (let z : _≡_ {A = ℕ} 0 1 = cc in omega arith)))
+same-cut too-large p c d = cut-none ∙ sym (cut-nothing too-large p c (λ v t e. clash (cc)))
 same-cut (done v t) p c d = go (leb v 1024) refl
   where
     go : (b : Bool) → leb v 1024 ≡ b → cut (done v t) ≡ cut p
@@ -142,7 +143,7 @@ module _ (schema : CompiledSchema) where
   -- what takes v visits at some depth takes them at every depth from v on
   pub enough : (f g : ℕ) → Within (plain-depth schema f) (plain-depth schema g) g
   unfolding plain-depth
-  enough zero g ps e v t q l = absurd (let z : _≡_ {A = ℕ} 0 1 = cc in omega arith)
+  enough zero g ps e v t q l = clash (cc)
   enough (suc f) zero ps e v t q l = absurd (omega (arith, at-least-one (suc f) ps e .holds v t q))
   enough (suc f) (suc g) ps e v t q l = node-within (plain-depth schema f) (plain-depth schema g) g (enough f g) ps e v t q l
 

@@ -23,7 +23,8 @@ unfolding expr-kind
 literal-kind c h = rw (lt-ltb c 3 h)
 
 module _ (names strings : ℕ) where
-  at-kind : (f : ℕ) {c : ℕ} (k : ExprKind) {ws : List ℕ} {e : Expr} → expr-kind c ≡ k → Reads (expr-node names strings (expr-tree names strings f) k c) ws e → Reads (expr-tree names strings (suc f)) (c ∷ ws) e
+  at-kind : (f : ℕ) {c : ℕ} (k : ExprKind) {ws : List ℕ} {e : Expr} → expr-kind c ≡ k → Reads (expr-node names strings (expr-tree names strings f) k c) ws e
+      → Reads (expr-tree names strings (suc f)) (c ∷ ws) e
   unfolding expr-tree
   at-kind f {c} k {ws} {e} q h = word-reads _ (subst (λ (k : ExprKind). Reads (expr-node names strings (expr-tree names strings f) k c) ws e) (sym q) h)
 
@@ -92,7 +93,20 @@ module _ (names strings : ℕ) where
   node-gives f part ih c ExprKind.FieldAccess k q = gives.below-then (λ x l. gives.last-gives _ ih (λ e ws h.
       record { is = ap₂ (λ (w : ℕ) (l : List ℕ). w ∷ x ∷ l) q (h .is); good = record { good = (l, h .good .good); deep = omega (arith, h .good .deep) } }))
   node-gives f part ih c ExprKind.Call k q = gives.below-then (λ x l. gives.below-then (λ n m. gives.last-gives _ (exprs-give f part ih n) (λ es ws h.
-      record { is = ap₂ (λ (w : ℕ) (l : List ℕ). w ∷ x ∷ l) q (ap₂ _∷_ (sym (h .counted)) (h .is)); good = record { good = (l, omega (arith, h .counted), h .good); deep = omega (arith, h .deep) } })))
+      record {
+        is = ap₂ (λ (w : ℕ) (l : List ℕ). w ∷ x ∷ l) q (ap₂ _∷_ (sym (h .counted)) (h .is));
+        good = record {
+          good = (
+            l,
+            omega (
+              arith,
+              h .counted,
+            ),
+            h .good,
+          );
+          deep = omega (arith, h .deep);
+        };
+      })))
   node-gives f part ih c ExprKind.TraitMethodCall k q = gives.below-then (λ t a. gives.below-then (λ m b. gives.below-then (λ n l. gives.then-gives ih (λ e vs h.
       gives.last-gives _ (exprs-give f part ih n) (λ es ws i.
       record {

@@ -10,6 +10,7 @@ use lib.Dec.{ltb, leb}
 use borrow.Author.Tests.{ltb-true, leb-true}
 use Rattle.rules.specs.Reader.{Rest, rest-at, Reader, bound, _>>=_, give, fail, rule, here, first, word, below, from}
 use Rattle.rules.specs.ReadTypes.{sized}
+use Rattle.laws.specs.Clash.{clash}
 
 -- from p to q some words were taken, of which P holds with the value
 pub record Found {A : Type 0} (P : A → List ℕ → Type 0) (p : Rest) (a : A) (q : Rest) : Type 0 where
@@ -22,7 +23,7 @@ pub record Gives {A : Type 0} (r : Reader A) (P : A → List ℕ → Type 0) : T
   pub found : (p : Rest) (a : A) (q : Rest) → r p ≡ some (a, q) → Found P p a q
 
 no-some : {A : Type 0} (a : A) → none ≡ some a → ⊥
-no-some a e = let z : _≡_ {A = ℕ} 0 1 = cc in omega arith
+no-some a e = clash (cc)
 
 -- weaker is given too
 pub so : {A : Type 0} {r : Reader A} {P Q : A → List ℕ → Type 0} → Gives r P → ((a : A) (ws : List ℕ) → P a ws → Q a ws) → Gives r Q

@@ -15,14 +15,14 @@ use Rattle.laws.specs.DefinitionRuns.{implementation-words, GoodMessage,
 abbrev pub most-words : ℕ
 most-words = 16384
 
+-- over the number of name rows and of definition rows
+pub record GoodName (names definitions : ℕ) (n : Name) : Type 0 where
+  pub text : length (n .text) ≤ 255
+  pub definition : (ltb (n .definition) definitions || eqb (n .definition) NONE) ≡ true
+  pub alias : AllOption (Stored names) (n .alias)
+
 -- over the number of name rows and of string rows
 module _ (names strings : ℕ) where
-  -- over the number of definition rows
-  pub record GoodName (definitions : ℕ) (n : Name) : Type 0 where
-    pub text : length (n .text) ≤ 255
-    pub definition : (ltb (n .definition) definitions || eqb (n .definition) NONE) ≡ true
-    pub alias : AllOption (Stored names) (n .alias)
-
   -- an implementation's words stand in the pool
   abbrev pub GoodDefinition : TypeDef → Type 0
   GoodDefinition TypeDef.other = Unit {0}
@@ -34,6 +34,6 @@ module _ (names strings : ℕ) where
   pub record GoodSchema (schema : CompiledSchema) : Type 0 where
     pub few-names : length (schema .names) ≤ 1024
     pub few-definitions : length (schema .definitions) ≤ 256
-    pub names-good : All (GoodName (length (schema .definitions))) (schema .names)
+    pub names-good : All (GoodName names (length (schema .definitions))) (schema .names)
     pub different : different-texts (schema .names) ≡ true
     pub definitions-good : All GoodDefinition (schema .definitions)

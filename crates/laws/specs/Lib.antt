@@ -1,3 +1,4 @@
+pub mod Clash
 pub mod Good
 pub mod Each
 pub mod Reads

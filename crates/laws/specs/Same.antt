@@ -4,12 +4,12 @@ use mathlib.Core.Path.{_≡_, refl, ap, ap₂, _∙_}
 use mathlib.Core.Bool.{Bool, true, false}
 use mathlib.Core.List.{List, [], _∷_}
 use mathlib.Core.Option.{Option, none, some}
-use native.Mathlib.Omega.{arith}
 use lib.Dec.{eqb, isEq}
 use borrow.Author.Tests.{eqb-true, eq-eqb}
 use Rattle.rules.specs.Words.{same}
 use Rattle.rules.specs.Syntax.{ResolvedType, run}
 use Rattle.rules.specs.Types.{same-type, return-words, same-return}
+use Rattle.laws.specs.Clash.{clash}
 use Rattle.laws.specs.Good.{Good, AllOption}
 use Rattle.laws.specs.Types.{run-injective}
 
@@ -20,14 +20,14 @@ on-equal b o = elim o [ Ordering·lt ↦ false | Ordering·eq ↦ b | Ordering·
 pub same-true : (xs ys : List ℕ) → same xs ys ≡ true → xs ≡ ys
 unfolding same
 same-true [] [] e = refl
-same-true [] (y ∷ ys) e = absurd (let z : _≡_ {A = ℕ} 0 1 = cc in omega arith)
-same-true (x ∷ xs) [] e = absurd (let z : _≡_ {A = ℕ} 0 1 = cc in omega arith)
+same-true [] (y ∷ ys) e = clash (cc)
+same-true (x ∷ xs) [] e = clash (cc)
 same-true (x ∷ xs) (y ∷ ys) e = go (compare x y) refl e (same-true xs ys)
   where
     go : (o : Ordering) → compare x y ≡ o → on-equal (same xs ys) o ≡ true → (same xs ys ≡ true → xs ≡ ys) → x ∷ xs ≡ y ∷ ys
-    go Ordering·lt q e ih = absurd (let z : _≡_ {A = ℕ} 0 1 = cc in omega arith)
+    go Ordering·lt q e ih = clash (cc)
     go Ordering·eq q e ih = ap₂ _∷_ (eqb-true x y (ap isEq q)) (ih e)
-    go Ordering·gt q e ih = absurd (let z : _≡_ {A = ℕ} 0 1 = cc in omega arith)
+    go Ordering·gt q e ih = clash (cc)
 
 pub same-self : (xs : List ℕ) → same xs xs ≡ true
 unfolding same
@@ -35,7 +35,7 @@ same-self [] = refl
 same-self (x ∷ xs) = ap (on-equal (same xs xs)) (equal (compare x x) refl) ∙ same-self xs
   where
     apart : (o : Ordering) → compare x x ≡ o → isEq o ≡ false → compare x x ≡ Ordering·eq
-    apart o q r = absurd (let p : eqb x x ≡ true = eq-eqb x x refl in let s : eqb x x ≡ false = ap isEq q ∙ r in let z : _≡_ {A = ℕ} 0 1 = cc in omega arith)
+    apart o q r = absurd (let p : eqb x x ≡ true = eq-eqb x x refl in let s : eqb x x ≡ false = ap isEq q ∙ r in clash (cc))
 
     equal : (o : Ordering) → compare x x ≡ o → compare x x ≡ Ordering·eq
     equal Ordering·lt q = apart Ordering·lt q refl
@@ -66,8 +66,8 @@ same-type-false names t u g h n = same-false (run t) (run u) (λ e. n (run-injec
 pub return-injective : (names : ℕ) (t u : Option ResolvedType) → AllOption (Good names) t → AllOption (Good names) u → return-words t ≡ return-words u → t ≡ u
 unfolding return-words
 return-injective names none none g h e = refl
-return-injective names none (some u) g h e = absurd (let z : _≡_ {A = ℕ} 0 1 = cc in omega arith)
-return-injective names (some t) none g h e = absurd (let z : _≡_ {A = ℕ} 0 1 = cc in omega arith)
+return-injective names none (some u) g h e = clash (cc)
+return-injective names (some t) none g h e = clash (cc)
 return-injective names (some t) (some u) g h e = let r : run t ≡ run u = cc in ap some (run-injective names t u g h r)
 
 pub same-return-true : (names : ℕ) (t u : Option ResolvedType) → AllOption (Good names) t → AllOption (Good names) u → same-return t u ≡ true → t ≡ u

@@ -13,7 +13,9 @@ use Rattle.rules.specs.Syntax.{CompiledSchema}
 use Rattle.rules.specs.Reader.{Rest, rest-at, Reader, from, repeat, times}
 use Rattle.rules.specs.Kinds.{definition-kind}
 use Rattle.rules.specs.declared.kinds.DefinitionKind.{DefinitionKind}
-use Rattle.rules.specs.Image.{part, Trailer, good-trailer, whole-rows, name-width, string-width, definition-width, trailer, alias-at, name-row, string-row, definition-node, definition-row, rows, sections, schema, readable}
+use Rattle.rules.specs.Image.{part, Trailer, good-trailer, whole-rows, name-width, string-width, definition-width, trailer, alias-at, name-row, string-row}
+use Rattle.rules.specs.Image.{definition-node, definition-row, rows, sections, schema, readable}
+use Rattle.laws.specs.Clash.{clash}
 use Rattle.laws.specs.Good.{All, AllOption}
 use Rattle.laws.specs.Gives as gives
 use Rattle.laws.specs.Gives.{Gives}
@@ -29,18 +31,19 @@ times-all g zero = gives.give-gives [] _ (tt, refl)
 times-all g (suc n) = gives.then-gives g (λ x vs h. gives.last-gives _ (times-all g n) (λ xs ws i. ((h, i .0), ap suc (i .1))))
 
 -- what stands in the pool, and is no longer than it
-from-exact : {A : Type 0} {r : Reader A} {run : A → List ℕ} {Good : A → Type 0} (pool : List ℕ) (start : ℕ) → Exact r run Good → Gives (from pool start r) (λ a ws. Good a × (length (run a) ≤ length pool))
+from-exact : {A : Type 0} {r : Reader A} {run : A → List ℕ} {Good : A → Type 0} (pool : List ℕ) (start : ℕ) → Exact r run Good
+    → Gives (from pool start r) (λ a ws. Good a × (length (run a) ≤ length pool))
 from-exact {A} {r} {run} pool start e = gives.so (gives.from-gives pool start (e .gives)) (λ a ws h.
     let s = h .1 in
     (s .holds .good, omega (arith, length-drop start pool, ap length (s .there), length-append (s .taken) (s .rest), ap length (s .holds .is))))
 
 and-true-left : (a b : Bool) → (a && b) ≡ true → a ≡ true
 and-true-left true b e = refl
-and-true-left false b e = absurd (let z : _≡_ {A = ℕ} 0 1 = cc in omega arith)
+and-true-left false b e = clash (cc)
 
 and-true-right : (a b : Bool) → (a && b) ≡ true → b ≡ true
 and-true-right true b e = e
-and-true-right false b e = absurd (let z : _≡_ {A = ℕ} 0 1 = cc in omega arith)
+and-true-right false b e = clash (cc)
 
 -- four bytes a word
 words-length : (bs : List ℕ) → 4 * length (words bs) ≤ length bs
@@ -59,7 +62,7 @@ module _ (image : List ℕ) (texts : ℕ) (pool : List ℕ) (names strings defin
   unfolding alias-at
   alias-gives start = gives.cond-gives (eqb start NONE) (λ e. gives.give-gives none _ tt) (λ e. gives.last-gives _ (from-exact pool start (type-exact names)) (λ t ws h. h .0))
 
-  name-row-gives : Gives (name-row image texts pool names strings definitions) (λ n ws. GoodName names strings definitions n)
+  name-row-gives : Gives (name-row image texts pool names strings definitions) (λ n ws. GoodName names definitions n)
   unfolding name-row
   name-row-gives = gives.word-then (λ start. gives.word-then (λ size. gives.word-then (λ definition. gives.word-then (λ alias.
       gives.rule-then _ _ (λ a. gives.rule-then _ _ (λ b. gives.last-gives _ (alias-gives alias) (λ t ws h.
@@ -92,14 +95,16 @@ module _ (image : List ℕ) (texts : ℕ) (pool : List ℕ) (names strings defin
       gives.then-gives (gives.from-gives string-words 0 (times-all string-row-gives strings)) (λ _ vs i.
       gives.last-gives _ (gives.from-gives definition-words 0 (times-all definition-row-gives definitions)) (λ ds ws j.
       let good = h .1 .holds in
-      let bodies = j .1 .holds in
-      (record {
-        few-names = omega (arith, good .1);
-        few-definitions = omega (arith, bodies .1);
-        names-good = subst (λ (m : ℕ). All (GoodName names strings m) ns) (sym (bodies .1)) (good .0);
-        different = different;
-        definitions-good = bodies .0;
-      }, good .1)))))
+      let bodies = j .1 .holds in (
+        record {
+          few-names = omega (arith, good .1);
+          few-definitions = omega (arith, bodies .1);
+          names-good = subst (λ (m : ℕ). All (GoodName names m) ns) (sym (bodies .1)) (good .0);
+          different = different;
+          definitions-good = bodies .0;
+        },
+        good .1,
+      )))))
 
 trailer-gives : Gives trailer (λ t ws. Unit {0})
 unfolding trailer
@@ -131,7 +136,7 @@ sections-give image size t l e =
     let pool : List ℕ = words (part image (t .pool-start) (t .definitions-start)) in
     let few : length pool ≤ most-words = omega (arith, words-length (part image (t .pool-start) (t .definitions-start)), part-length image (t .pool-start) (t .definitions-start)) in
     let tests = third-and-last (eqb (t .format) 1) (eqb (t .size) size) (whole-rows (t .names-start) (t .strings-start) name-width 1024) (whole-rows (t .strings-start) (t .pool-start) string-width 1024)
-        (whole-rows (t .pool-start) (t .definitions-start) 4 65536) (whole-rows (t .definitions-start) (size - 24) definition-width 256) e in
+    (whole-rows (t .pool-start) (t .definitions-start) 4 65536) (whole-rows (t .definitions-start) (size - 24) definition-width 256) e in
     let names-few = few-rows (t .names-start) (t .strings-start) name-width 1024 (tests .0) in
     let definitions-few = few-rows (t .definitions-start) (size - 24) definition-width 256 (tests .1) in
     gives.so (rows-give image (t .names-start) pool _ _ _ few names-few definitions-few _ _ _) (λ s ws h. record { names = _; strings = _; counted = h .1; good = h .0 })
@@ -148,7 +153,7 @@ readable-held image s e = go (schema image (length image) (rest-at [] 0)) refl e
   where
     go : (o : Option (CompiledSchema × Rest)) → schema image (length image) (rest-at [] 0) ≡ o
         → _≡_ {A = Option CompiledSchema} (elim o as (λ _. Option CompiledSchema) [ none ↦ none | some p ↦ some (p .0) ]) (some s) → Held s
-    go none q e = absurd (let z : _≡_ {A = ℕ} 0 1 = cc in omega arith)
+    go none q e = clash (cc)
     go (some p) q e = let same : p .0 ≡ s = cc in subst Held same (schema-gives image .found (rest-at [] 0) (p .0) (p .1) q .holds)
 
 -- what an image holds is good, over its number of names and some number of strings

@@ -13,7 +13,8 @@ use Rattle.rules.specs.Kinds.{type-kind}
 use Rattle.rules.specs.declared.kinds.TypeKind.{TypeKind}
 use Rattle.rules.specs.Options.{then, or, or-else}
 use Rattle.rules.specs.Types.{POISON}
-use Rattle.rules.specs.Substitute.{Counted, too-large, done, bounded, primitive, find-param, one-parameter, lookup, lookup-primitive-alias, lookup-alias, lookup-qualified, named-or-poison, resolve-name, expand, substitute-node, substitute-depth, substitute-type}
+use Rattle.rules.specs.Substitute.{Counted, too-large, done, bounded, primitive, find-param, one-parameter, lookup, lookup-primitive-alias, lookup-alias}
+use Rattle.rules.specs.Substitute.{lookup-qualified, named-or-poison, resolve-name, expand, substitute-node, substitute-depth, substitute-type}
 use Rattle.laws.specs.Good.{All, AllOption, Good, GoodExpr}
 use Rattle.laws.specs.Counts.{Counts, too-large-counts, done-counts, after-counts, any-counts}
 use Rattle.laws.specs.Each.{at-all, then-all, then-any}
@@ -101,7 +102,8 @@ module _ (names : ℕ) where
     one-parameter-good strings (TypeDef.message m) g = tt
     one-parameter-good strings (TypeDef.generic-alias a) g = go (a .type-params)
       where
-        go : (xs : List ℕ) → AllOption GoodTarget (elim xs as (λ _. Option (Param TypeExpr)) [ [] ↦ none | x ∷ xs ↦ elim xs as (λ _. Option (Param TypeExpr)) [ [] ↦ some (record { name = x; ty = a .target-type }) | y ∷ ys ↦ none ] ])
+        go : (xs : List ℕ)
+            → AllOption GoodTarget (elim xs as (λ _. Option (Param TypeExpr)) [ [] ↦ none | x ∷ xs ↦ elim xs as (λ _. Option (Param TypeExpr)) [ [] ↦ some (record { name = x; ty = a .target-type }) | y ∷ ys ↦ none ] ])
         go [] = tt
         go (x ∷ []) = g .target-type .good
         go (x ∷ y ∷ ys) = tt

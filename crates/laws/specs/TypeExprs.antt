@@ -50,7 +50,8 @@ depth-expr-run names (TypeExpr.fixed low high t) g = omega (arith, depth-expr-ru
 depth-expr-run names (TypeExpr.two c t u) g = omega (arith, depth-expr-run names t (g .1), depth-expr-run names u (g .2), length-append (expr-run t) (expr-run u))
 
 module _ (names : ℕ) where
-  at-kind : (f : ℕ) {c : ℕ} (k : TypeKind) {ws : List ℕ} {e : TypeExpr} → type-kind c ≡ k → Reads (type-expr-node names (type-expr-tree names f) k c) ws e → Reads (type-expr-tree names (suc f)) (c ∷ ws) e
+  at-kind : (f : ℕ) {c : ℕ} (k : TypeKind) {ws : List ℕ} {e : TypeExpr} → type-kind c ≡ k → Reads (type-expr-node names (type-expr-tree names f) k c) ws e
+      → Reads (type-expr-tree names (suc f)) (c ∷ ws) e
   unfolding type-expr-tree
   at-kind f {c} k {ws} {e} q h = word-reads _ (subst (λ (k : TypeKind). Reads (type-expr-node names (type-expr-tree names f) k c) ws e) (sym q) h)
 

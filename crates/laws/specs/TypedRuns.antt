@@ -25,7 +25,8 @@ use Rattle.laws.specs.Types.{Stored, type-exact, wide-then, wide-gives}
 use Rattle.laws.specs.Expressions.{literal-kind}
 use Rattle.laws.specs.DefinitionRuns.{Few}
 use Rattle.laws.specs.Definitions.{few-exact}
-use Rattle.laws.specs.Typed.{typed-nesting, kind-nesting, TypedValue, TypedKind, TypedNested, TypedStatement, TypedParam, TypedSignature, TypedFunction, kind-node, value-tree, typed-statement-node, typed-statement, typed-param, typed-signature, typed-function}
+use Rattle.laws.specs.Typed.{typed-nesting, kind-nesting, TypedValue, TypedKind, TypedNested, TypedStatement, TypedParam, TypedSignature, TypedFunction, kind-node}
+use Rattle.laws.specs.Typed.{value-tree, typed-statement-node, typed-statement, typed-param, typed-signature, typed-function}
 
 module _ (names : ℕ) where
   at-kind : (f c : ℕ) (k : ExprKind) {t : ResolvedType} {ws : List ℕ} {x : PortableExprKind} → Stored names t → expr-kind c ≡ k
@@ -80,7 +81,8 @@ module _ (names : ℕ) where
   pub value-exact : (f : ℕ) → Exact (value-tree names f) value-words (TypedNested names f)
   value-exact f = record { reads = λ e g. value-reads f e (g .good) (g .deep); gives = value-gives f }
 
-  at-statement : (c : ℕ) (k : StatementKind) {ws : List ℕ} {s : PortableStatement} → statement-kind c ≡ k → Reads (typed-statement-node names k) ws s → Reads (typed-statement names) (c ∷ ws) s
+  at-statement : (c : ℕ) (k : StatementKind) {ws : List ℕ} {s : PortableStatement} → statement-kind c ≡ k → Reads (typed-statement-node names k) ws s
+      → Reads (typed-statement names) (c ∷ ws) s
   unfolding typed-statement
   at-statement c k {ws} {s} q h = word-reads _ (subst (λ (k : StatementKind). Reads (typed-statement-node names k) ws s) (sym q) h)
 

@@ -14,6 +14,7 @@ use Rattle.rules.specs.Kinds.{type-kind}
 use Rattle.rules.specs.ReadTypes.{sub-byte, wide, bits-inline, type-node, type-tree, resolved-type}
 use Rattle.rules.specs.Output.{each, listed}
 use Rattle.rules.specs.declared.kinds.TypeKind.{TypeKind}
+use Rattle.laws.specs.Clash.{clash}
 use Rattle.laws.specs.Good.{Below, Good, depth}
 use Rattle.laws.specs.Codes.{TypeCode, type-code}
 use Rattle.laws.specs.Reads.{Reads, give-reads, then-reads, last-reads, word-reads, rule-reads, below-then}
@@ -48,8 +49,8 @@ within-true a b n e = go (leb a n) (leb n b) refl refl e
   where
     go : (x y : Bool) → leb a n ≡ x → leb n b ≡ y → (x && y) ≡ true → (a ≤ n) × (n ≤ b)
     go true true p q e = (leb-true a n p, leb-true n b q)
-    go true false p q e = absurd (let z : _≡_ {A = ℕ} 0 1 = cc in omega arith)
-    go false y p q e = absurd (let z : _≡_ {A = ℕ} 0 1 = cc in omega arith)
+    go true false p q e = clash (cc)
+    go false y p q e = clash (cc)
 
 -- names are their own words
 each-word : (ns : List ℕ) → each (λ n. n ∷ []) ns ≡ ns
@@ -86,7 +87,8 @@ module _ (names : ℕ) where
       }
 
   -- a node behind its code, by the kind of the code
-  at-kind : (f : ℕ) {c : ℕ} (k : TypeKind) {ws : List ℕ} {t : ResolvedType} → type-kind c ≡ k → Reads (type-node names (type-tree names f) k c) ws t → Reads (type-tree names (suc f)) (c ∷ ws) t
+  at-kind : (f : ℕ) {c : ℕ} (k : TypeKind) {ws : List ℕ} {t : ResolvedType} → type-kind c ≡ k → Reads (type-node names (type-tree names f) k c) ws t
+      → Reads (type-tree names (suc f)) (c ∷ ws) t
   unfolding type-tree
   at-kind f {c} k {ws} {t} e h = word-reads _ (subst (λ (k : TypeKind). Reads (type-node names (type-tree names f) k c) ws t) (sym e) h)
 

@@ -14,7 +14,7 @@ use Rattle.laws.specs.Types.{Stored}
 use Rattle.laws.specs.DefinitionRuns.{GoodParam, GoodFunction}
 use Rattle.laws.specs.Typed.{TypedParam, TypedSignature}
 use Rattle.laws_answers.specs.Ends as ends
-use Rattle.laws_answers.specs.Ends.{Ends}
+use Rattle.laws_answers.specs.Ends.{Ends, Short}
 use Rattle.laws_answers.specs.Expected.{normalize-stored}
 
 -- a return's words are at most 65
@@ -24,7 +24,7 @@ return-short names none h = omega arith
 return-short names (some t) h = omega (arith, h .short)
 
 params-end : (names f : ℕ) (actual expected : List (Param ResolvedType)) → All (GoodParam names (Stored names)) actual → All (TypedParam names) expected
-    → Ends (check-params f actual expected) (λ _. Unit {0})
+    → Ends Short (check-params f actual expected) (λ _. Unit {0})
 unfolding check-params
 params-end names f [] [] g h = ends.ok-ends tt _ tt
 params-end names f [] (e ∷ es) g h = ends.ok-ends tt _ tt
@@ -35,11 +35,15 @@ params-end names f (a ∷ rest) (e ∷ es) g h =
     params-end names f rest es (g .1) (h .1)))
 
 pub signature-ends : (names strings : ℕ) (actual : ImplFnDef) (expected : PortableSignature) → GoodFunction names strings actual → TypedSignature names expected
-    → Ends (check-signature actual expected) (λ _. Unit {0})
+    → Ends Short (check-signature actual expected) (λ _. Unit {0})
 unfolding check-signature
 signature-ends names strings actual expected g h =
     ends.ensure-ends (eqb (length (actual .params)) (length (expected .params))) _ _ (omega arith) (λ _.
     ends.then-ends (params-end names (expected .name) (actual .params) (expected .params) (g .params .each) (h .params .each)) (λ _ _.
     ends.last-ensure-ends (same-return (normalize-return (actual .return-type)) (expected .return-type)) _
-    (omega (arith, length-append (return-words (expected .return-type)) (return-words (normalize-return (actual .return-type))), return-short names (expected .return-type) (h .return-type),
-    return-short names (normalize-return (actual .return-type)) (normalize-stored names (actual .return-type) (g .return-type))))))
+    (omega (
+      arith,
+      length-append (return-words (expected .return-type)) (return-words (normalize-return (actual .return-type))),
+      return-short names (expected .return-type) (h .return-type),
+      return-short names (normalize-return (actual .return-type)) (normalize-stored names (actual .return-type) (g .return-type)),
+    ))))

@@ -10,7 +10,8 @@ use lib.Dec.{eqb}
 use Rattle.rules.specs.Syntax.{ResolvedType, TypeExpr, TraitReturn, TraitFnDef, TraitDef, ImplDef, CompiledSchema, Param}
 use Rattle.rules.specs.Types.{normalize-return, same-type, VOID}
 use Rattle.rules.specs.Substitute.{Counted, too-large, done, view, substitute-type}
-use Rattle.rules.specs.Signatures.{PortableSignature, poisoned-params, poisoned-return, resolve-params, resolve-return, resolve-signature, expected-function, expected-list, expected-functions}
+use Rattle.rules.specs.Signatures.{PortableSignature, poisoned-params, poisoned-return, resolve-params, resolve-return, resolve-signature, expected-function}
+use Rattle.rules.specs.Signatures.{expected-list, expected-functions}
 use Rattle.laws.specs.Good.{All, AllOption, Good}
 use Rattle.laws.specs.Types.{Stored}
 use Rattle.laws.specs.TypeExprs.{StoredExpr}
@@ -20,7 +21,7 @@ use Rattle.laws.specs.Counts.{Counts, done-counts, after-counts}
 use Rattle.laws.specs.Substitution.{substitute-good}
 use Rattle.laws.specs.Typed.{TypedParam, TypedSignature}
 use Rattle.laws_answers.specs.Ends as ends
-use Rattle.laws_answers.specs.Ends.{Ends}
+use Rattle.laws_answers.specs.Ends.{Ends, Short}
 
 -- 32 parameters and a return
 abbrev pub function-visits : ℕ
@@ -76,16 +77,18 @@ module _ (names strings : ℕ) (schema : CompiledSchema) (s : GoodSchema names s
   signature-counts f g =
       after-counts (params-count (f .params) (g .params .each)) (λ v ps a. after-counts (return-counts (f .return-type) (g .return-type)) (λ w t b.
       done-counts _ _ _ (
-          omega (arith, a .0, b .0, g .params .few),
-          record { params = record { few = omega (arith, a .1, g .params .few); each = a .2 }; return-type = normalize-stored names t (b .1) },
-          refl)))
+        omega (arith, a .0, b .0, g .params .few),
+        record { params = record { few = omega (arith, a .1, g .params .few); each = a .2 }; return-type = normalize-stored names t (b .1) },
+        refl,
+      )))
 
-  function-ends : (f : TraitFnDef) (o : Counted PortableSignature) (P : ℕ → PortableSignature → Type 0) → Counts o P → Ends (expected-function schema params (f .name) o) (λ p. P (p .0) (p .1))
+  function-ends : (f : TraitFnDef) (o : Counted PortableSignature) (P : ℕ → PortableSignature → Type 0) → Counts o P
+      → Ends Short (expected-function schema params (f .name) o) (λ p. P (p .0) (p .1))
   unfolding expected-function
   function-ends f too-large P h = ends.err-ends _ (omega arith)
   function-ends f (done v t) P h = ends.ensure-ends (not (poisoned-params (t .params) || poisoned-return (t .return-type))) _ _ (omega arith) (λ e. ends.ok-ends (v, t) _ (h .holds v t refl))
 
-  list-ends : (fs : List TraitFnDef) → All (GoodTraitFunction names) fs → Ends (expected-list schema params fs) (Signed names fs)
+  list-ends : (fs : List TraitFnDef) → All (GoodTraitFunction names) fs → Ends Short (expected-list schema params fs) (Signed names fs)
   unfolding expected-list
   list-ends [] h = ends.ok-ends (0, []) _ (record { visits = omega arith; each = tt; named = refl; counted = refl })
   list-ends (f ∷ fs) h =
@@ -97,8 +100,9 @@ module _ (names strings : ℕ) (schema : CompiledSchema) (s : GoodSchema names s
         counted = ap suc (b .counted);
       })))
 
-pub expected-ends : (names strings : ℕ) (schema : CompiledSchema) → GoodSchema names strings schema → (trait : TraitDef) (impl : ImplDef) → GoodTrait names trait → GoodImpl names strings impl
-    → Ends (expected-functions schema trait impl) (Signed names (trait .functions))
+pub expected-ends : (names strings : ℕ) (schema : CompiledSchema) → GoodSchema names strings schema → (trait : TraitDef) (impl : ImplDef) → GoodTrait names trait
+    → GoodImpl names strings impl
+    → Ends Short (expected-functions schema trait impl) (Signed names (trait .functions))
 unfolding expected-functions
 expected-ends names strings schema s trait impl t i =
     ends.ensure-ends (eqb (length (trait .type-params)) (length (impl .type-args))) _ _ (omega arith) (λ e.

@@ -21,7 +21,7 @@ use Rattle.laws.specs.Runs.{stored-statement-words, body-words, GoodBody, GoodS
 use Rattle.laws.specs.DefinitionRuns.{Few, typed-words, GoodParam, GoodMessage, GoodFunction, GoodImpl, impl-function-words}
 use Rattle.laws.specs.Typed.{TypedParam, TypedSignature, TypedFunction}
 use Rattle.laws_answers.specs.Ends as ends
-use Rattle.laws_answers.specs.Ends.{Ends}
+use Rattle.laws_answers.specs.Ends.{Ends, Short}
 use Rattle.laws_answers.specs.Values.{growth}
 use Rattle.laws_answers.specs.Projected.{statements-end}
 use Rattle.laws_answers.specs.Sizes.{size, named-size, named-found, different-first}
@@ -43,13 +43,32 @@ module _ (names : ℕ) where
   params-short [] h = tt
   params-short (p ∷ ps) h = (omega (arith, h .0 .short), params-short ps (h .1))
 
-  pub signature-short : (name : ℕ) (ps : List (Param ResolvedType)) (t : Option ResolvedType) → Few 32 (TypedParam names) ps → AllOption (Stored names) t → length (signature-words name ps t) ≤ signature-most
+  pub signature-short : (name : ℕ) (ps : List (Param ResolvedType)) (t : Option ResolvedType) → Few 32 (TypedParam names) ps → AllOption (Stored names) t
+      → length (signature-words name ps t) ≤ signature-most
   unfolding signature-words listed
-  signature-short name ps t h g = omega (arith, each-length param-words 65 ps (params-short ps (h .each)), h .few, return-short names t g, length-append (listed param-words ps) (return-words t))
+  signature-short name ps t h g = omega (
+    arith,
+    each-length param-words 65 ps (params-short ps (h .each)),
+    h .few,
+    return-short names t g,
+    length-append (listed param-words ps) (return-words t),
+  )
+
+module _ (names : ℕ) where
+  -- a typed function against the stored one
+  pub record Function (actual : ImplFnDef) (f : PortableFunction) : Type 0 where
+    pub good : TypedFunction names f
+    pub small : length (function-words f) ≤ 2148 + growth * size actual
+
+  -- functions one by one
+  pub record Functions (fs : List ImplFnDef) (ss : List PortableSignature) (gs : List PortableFunction) : Type 0 where
+    pub good : All (TypedFunction names) gs
+    pub counted : length gs ≡ length ss
+    pub small : length (each function-words gs) ≤ 2148 * length ss + growth * named-size (map (λ s. s .name) ss) fs
 
 -- a body's statements
 block-ends : (names strings f : ℕ) (b : FnBody) → GoodBody names strings b
-    → Ends (block-of f b) (λ ss. (length ss ≤ 256) × All (GoodStatement names strings) ss × (length (each stored-statement-words ss) ≤ length (body-words b)))
+    → Ends Short (block-of f b) (λ ss. (length ss ≤ 256) × All (GoodStatement names strings) ss × (length (each stored-statement-words ss) ≤ length (body-words b)))
 unfolding block-of body-words listed
 block-ends names strings f FnBody.external g = ends.err-ends _ (omega arith)
 block-ends names strings f (FnBody.block ss) g = ends.ok-ends ss _ (g .0, g .1, omega arith)
@@ -63,33 +82,32 @@ fields-typed names (p ∷ ps) h = (h .0 .ty, fields-typed names ps (h .1))
 body-size : (f : ImplFnDef) → length (body-words (f .body)) ≤ size f
 unfolding impl-function-words
 body-size f =
-    omega (arith, length-append (listed (typed-words run) (f .params)) (optional run (f .return-type) ++ body-words (f .body)), length-append (optional run (f .return-type)) (body-words (f .body)))
+    omega (
+      arith,
+      length-append (listed (typed-words run) (f .params)) (optional run (f .return-type) ++ body-words (f .body)),
+      length-append (optional run (f .return-type)) (body-words (f .body)),
+    )
 
 module _ (names strings : ℕ) where
-  -- a typed function against the stored one
-  pub record Function (actual : ImplFnDef) (f : PortableFunction) : Type 0 where
-    pub good : TypedFunction names f
-    pub small : length (function-words f) ≤ 2148 + growth * size actual
-
   pub function-ends : (actual : ImplFnDef) (expected : PortableSignature) (message : MessageDef) (impl : ImplDef)
       → GoodFunction names strings actual → TypedSignature names expected → GoodMessage names message → GoodImpl names strings impl
-      → Ends (project-function actual expected message impl) (Function actual)
+      → Ends Short (project-function actual expected message impl) (Function names actual)
   unfolding project-function function-words listed
   function-ends actual expected message impl a e m i =
       ends.then-ends (block-ends names strings (actual .name) (actual .body) (a .body)) (λ ss b.
       ends.then-ends (statements-end names strings (expected .return-type) (e .return-type) _
-          (record { locals = e .params .each; fields = fields-typed names (message .fields) (m .fields .each); self-type = i .target-type }) ss (b .1)) (λ ps p.
+      (record { locals = e .params .each; fields = fields-typed names (message .fields) (m .fields .each); self-type = i .target-type }) ss (b .1)) (λ ps p.
       ends.ok-ends _ _ (record {
         good = record { params = e .params; return-type = e .return-type; statements = record { few = omega (arith, p .few, b .0); each = p .good } };
-        small = omega (arith, signature-short names (expected .name) (expected .params) (expected .return-type) (e .params) (e .return-type), p .small, b .2, body-size actual,
-            length-append (signature-words (expected .name) (expected .params) (expected .return-type)) (listed statement-words ps));
+        small = omega (
+          arith,
+          signature-short names (expected .name) (expected .params) (expected .return-type) (e .params) (e .return-type),
+          p .small,
+          b .2,
+          body-size actual,
+          length-append (signature-words (expected .name) (expected .params) (expected .return-type)) (listed statement-words ps),
+        );
       })))
-
-  -- functions one by one
-  pub record Functions (fs : List ImplFnDef) (ss : List PortableSignature) (gs : List PortableFunction) : Type 0 where
-    pub good : All (TypedFunction names) gs
-    pub counted : length gs ≡ length ss
-    pub small : length (each function-words gs) ≤ 2148 * length ss + growth * named-size (map (λ s. s .name) ss) fs
 
   find-good : (x : ℕ) (fs : List ImplFnDef) → All (GoodFunction names strings) fs → AllOption (λ f. GoodFunction names strings f × (find-function x fs ≡ some f)) (find-function x fs)
   unfolding find-function
@@ -102,7 +120,7 @@ module _ (names strings : ℕ) where
       go false i = i
 
   pub list-ends : (impl : ImplDef) (message : MessageDef) → GoodImpl names strings impl → GoodMessage names message
-      → (ss : List PortableSignature) → All (TypedSignature names) ss → all-different (map (λ s. s .name) ss) ≡ true → Ends (project-list impl message ss) (Functions (impl .functions) ss)
+      → (ss : List PortableSignature) → All (TypedSignature names) ss → all-different (map (λ s. s .name) ss) ≡ true → Ends Short (project-list impl message ss) (Functions names (impl .functions) ss)
   unfolding project-list each
   list-ends impl message i m [] h d = ends.ok-ends [] _ (record { good = tt; counted = refl; small = omega arith })
   list-ends impl message i m (s ∷ ss) h d =
@@ -114,5 +132,11 @@ module _ (names strings : ℕ) where
       ends.ok-ends _ _ (record {
         good = (p .good, q .good);
         counted = ap suc (q .counted);
-        small = omega (arith, p .small, q .small, length-append (function-words f) (each function-words fs), named-found (s .name) (map (λ s. s .name) ss) (different .0) (impl .functions) actual (a .1));
+        small = omega (
+          arith,
+          p .small,
+          q .small,
+          length-append (function-words f) (each function-words fs),
+          named-found (s .name) (map (λ s. s .name) ss) (different .0) (impl .functions) actual (a .1),
+        );
       })))))

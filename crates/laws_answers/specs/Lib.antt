@@ -7,3 +7,5 @@ pub mod Sizes
 pub mod Functions
 pub mod Calls
 pub mod Answers
+pub mod Erased
+pub mod ErasedBodies

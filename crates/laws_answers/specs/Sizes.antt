@@ -12,6 +12,7 @@ use Rattle.rules.specs.Words.{member, all-different}
 use Rattle.rules.specs.Syntax.{ImplFnDef}
 use Rattle.rules.specs.Project.{find-function}
 use Rattle.rules.specs.Output.{each}
+use Rattle.laws.specs.Clash.{clash}
 use Rattle.laws.specs.DefinitionRuns.{impl-function-words}
 
 abbrev pub size : ImplFnDef → ℕ
@@ -30,7 +31,12 @@ cond-most false n = omega arith
 pub named-size-most : (ns : List ℕ) (fs : List ImplFnDef) → named-size ns fs ≤ length (each impl-function-words fs)
 unfolding each
 named-size-most ns [] = omega arith
-named-size-most ns (f ∷ fs) = omega (arith, cond-most (member (f .name) ns) (length (impl-function-words f)), named-size-most ns fs, length-append (impl-function-words f) (each impl-function-words fs))
+named-size-most ns (f ∷ fs) = omega (
+  arith,
+  cond-most (member (f .name) ns) (length (impl-function-words f)),
+  named-size-most ns fs,
+  length-append (impl-function-words f) (each impl-function-words fs),
+)
 
 -- a name more in the list
 head-more : (x n : ℕ) (ns : List ℕ) (w : ℕ) → cond (member x ns) w 0 ≤ cond (member x (n ∷ ns)) w 0
@@ -53,7 +59,7 @@ member-first n ns = ap {B = Bool} (λ b. elim b as (λ _. Bool) [ true ↦ true 
 pub named-found : (n : ℕ) (ns : List ℕ) → member n ns ≡ false → (fs : List ImplFnDef) (f : ImplFnDef) → find-function n fs ≡ some f
     → size f + named-size ns fs ≤ named-size (n ∷ ns) fs
 unfolding find-function
-named-found n ns m [] f e = absurd (let z : _≡_ {A = ℕ} 0 1 = cc in omega arith)
+named-found n ns m [] f e = clash (cc)
 named-found n ns m (g ∷ fs) f e = go (eqb n (g .name)) refl e (named-found n ns m fs f)
   where
     head : g .name ≡ n → size g + named-size ns (g ∷ fs) ≤ named-size (n ∷ ns) (g ∷ fs)
@@ -74,5 +80,5 @@ unfolding all-different
 different-first x xs e = go (member x xs) refl e
   where
     go : (b : Bool) → member x xs ≡ b → (elim b as (λ _. Bool) [ true ↦ false | false ↦ all-different xs ]) ≡ true → (member x xs ≡ false) × (all-different xs ≡ true)
-    go true q e = absurd (let z : _≡_ {A = ℕ} 0 1 = cc in omega arith)
+    go true q e = clash (cc)
     go false q e = (q, e)

@@ -13,21 +13,23 @@ use Rattle.rules.specs.Types.{BOOL, STRING, same-type}
 use Rattle.rules.specs.Fits.{literal-fits, literal-own}
 use Rattle.rules.specs.Options.{or-else}
 use Rattle.rules.specs.Refusal.{Result, ok}
-use Rattle.rules.specs.Infer.{PortableExpr, PortableExprKind, typed, type-of, FunctionContext, find-last, Place, of-local, of-self, of-field, nowhere, field-of, place, is-arithmetic, operand-allowed, unary-allowed, place-type, expression-hint, type-mismatch, ensure-same-type, ended, infer-literal, binary-hint, infer-expr}
+use Rattle.rules.specs.Infer.{PortableExpr, PortableExprKind, typed, type-of, FunctionContext, find-last, Place, of-local, of-self, of-field, nowhere, field-of, place}
+use Rattle.rules.specs.Infer.{is-arithmetic, operand-allowed, unary-allowed, place-type, expression-hint, type-mismatch, ensure-same-type, ended, infer-literal}
+use Rattle.rules.specs.Infer.{binary-hint, infer-expr}
 use Rattle.rules.specs.Output.{value-words, kind-words}
 use Rattle.laws.specs.Good.{All, AllOption}
 use Rattle.laws.specs.Types.{Stored}
 use Rattle.laws.specs.Runs.{expr-words, nesting, GoodValue}
 use Rattle.laws.specs.Typed.{typed-nesting, kind-nesting, TypedValue, TypedKind, TypedParam}
 use Rattle.laws_answers.specs.Ends as ends
-use Rattle.laws_answers.specs.Ends.{Ends}
+use Rattle.laws_answers.specs.Ends.{Ends, Short}
 
 -- a value's type and one word more, for each word
 abbrev pub growth : ℕ
 growth = 65
 
 -- over the number of name rows
-module _ (names strings : ℕ) where
+module _ (names : ℕ) where
   pub record GoodContext (c : FunctionContext) : Type 0 where
     pub locals : All (TypedParam names) (c .locals)
     pub fields : All (TypedParam names) (c .fields)
@@ -104,30 +106,30 @@ module _ (names strings : ℕ) where
         go true = h
         go false = tt
 
-    mismatch-ends : {A : Type 0} {P : A → Type 0} (ctx : ℕ) (t u : ResolvedType) → Stored names t → Stored names u → Ends (type-mismatch c {A = A} ctx t u) P
+    mismatch-ends : {A : Type 0} {P : A → Type 0} (ctx : ℕ) (t u : ResolvedType) → Stored names t → Stored names u → Ends Short (type-mismatch c {A = A} ctx t u) P
     unfolding type-mismatch
     mismatch-ends ctx t u s v = ends.err-ends _ (omega (arith, length-append (run t) (run u), s .short, v .short))
 
-    same-ends : (ctx : ℕ) (t u : ResolvedType) → Stored names t → Stored names u → Ends (ensure-same-type c ctx t u) (λ _. Unit {0})
+    same-ends : (ctx : ℕ) (t u : ResolvedType) → Stored names t → Stored names u → Ends Short (ensure-same-type c ctx t u) (λ _. Unit {0})
     unfolding ensure-same-type
     same-ends ctx t u s v = go (same-type t u)
       where
-        go : (b : Bool) → Ends {A = Unit {0}} (elim b as (λ _. Result (Unit {0})) [ true ↦ ok tt | false ↦ type-mismatch c ctx t u ]) (λ _. Unit {0})
+        go : (b : Bool) → Ends {A = Unit {0}} Short (elim b as (λ _. Result (Unit {0})) [ true ↦ ok tt | false ↦ type-mismatch c ctx t u ]) (λ _. Unit {0})
         go true = ends.ok-ends tt _ tt
         go false = mismatch-ends ctx t u s v
 
     ended-ends : (P : PortableExpr → Type 0) (expected : Option ResolvedType) (ctx : ℕ) (t : ResolvedType) (k : PortableExprKind)
-        → AllOption (Stored names) expected → Stored names t → P (typed t k) → Ends (ended c expected ctx t k) P
+        → AllOption (Stored names) expected → Stored names t → P (typed t k) → Ends Short (ended c expected ctx t k) P
     unfolding ended
     ended-ends P none ctx t k h s p = ends.ok-ends _ P p
     ended-ends P (some e) ctx t k h s p = ends.then-ends (same-ends ctx e t h s) (λ _ _. ends.ok-ends _ P p)
 
-    literal-ends : (code n : ℕ) (expected : Option ResolvedType) → AllOption (Stored names) expected → Ends (infer-literal c code n expected) (Stored names)
+    literal-ends : (code n : ℕ) (expected : Option ResolvedType) → AllOption (Stored names) expected → Ends Short (infer-literal c code n expected) (Stored names)
     unfolding infer-literal
     literal-ends code n none h = ends.ok-ends _ _ (literal-stored code)
     literal-ends code n (some t) h = go (literal-fits code n t)
       where
-        go : (b : Bool) → Ends {A = ResolvedType} (elim b as (λ _. Result ResolvedType) [ true ↦ ok t | false ↦ type-mismatch c code t (literal-own code) ]) (Stored names)
+        go : (b : Bool) → Ends {A = ResolvedType} Short (elim b as (λ _. Result ResolvedType) [ true ↦ ok t | false ↦ type-mismatch c code t (literal-own code) ]) (Stored names)
         go true = ends.ok-ends t _ h
         go false = mismatch-ends code t (literal-own code) h (literal-stored code)
 
@@ -137,23 +139,24 @@ module _ (names strings : ℕ) where
     unfolding value-words
     leaf e t k good flat deep small any s = record { good = (s, good); deep = omega arith; small = omega (arith, length-append (run t) (kind-words k), s .short) }
 
-    pub infer-ends : (e : Expr) (expected : Option ResolvedType) (ctx : ℕ) → GoodValue names strings e → AllOption (Stored names) expected → Ends (infer-expr c e expected ctx) (Inferred e)
+    pub infer-ends : (strings : ℕ) (e : Expr) (expected : Option ResolvedType) (ctx : ℕ) → GoodValue names strings e → AllOption (Stored names) expected
+        → Ends Short (infer-expr c e expected ctx) (Inferred e)
     unfolding infer-expr value-words kind-words expr-words
-    infer-ends (Expr.literal code low high) expected ctx v h = ends.then-ends (literal-ends code _ expected h) (λ t s.
+    infer-ends strings (Expr.literal code low high) expected ctx v h = ends.then-ends (literal-ends code _ expected h) (λ t s.
         ended-ends (Inferred _) expected ctx t _ h s (leaf _ t _ v refl (omega arith) (omega arith) (omega arith) s))
-    infer-ends (Expr.bool b) expected ctx v h = ended-ends (Inferred _) expected ctx BOOL _ h bool-stored (leaf _ BOOL _ tt refl (omega arith) (omega arith) (omega arith) bool-stored)
-    infer-ends (Expr.string b) expected ctx v h = ended-ends (Inferred _) expected ctx STRING _ h string-stored (leaf _ STRING _ tt refl (omega arith) (omega arith) (omega arith) string-stored)
-    infer-ends (Expr.local x) expected ctx v h = ends.then-ends (ends.refuse-ends (Stored names) (find-last x (c .locals)) _ (omega arith) (find-last-stored x (c .locals) (g .locals))) (λ t s.
+    infer-ends strings (Expr.bool b) expected ctx v h = ended-ends (Inferred _) expected ctx BOOL _ h bool-stored (leaf _ BOOL _ tt refl (omega arith) (omega arith) (omega arith) bool-stored)
+    infer-ends strings (Expr.string b) expected ctx v h = ended-ends (Inferred _) expected ctx STRING _ h string-stored (leaf _ STRING _ tt refl (omega arith) (omega arith) (omega arith) string-stored)
+    infer-ends strings (Expr.local x) expected ctx v h = ends.then-ends (ends.refuse-ends (Stored names) (find-last x (c .locals)) _ (omega arith) (find-last-stored x (c .locals) (g .locals))) (λ t s.
         ended-ends (Inferred _) expected ctx t _ h s (leaf _ t _ tt refl (omega arith) (omega arith) (omega arith) s))
-    infer-ends Expr.self-ref expected ctx v h =
+    infer-ends strings Expr.self-ref expected ctx v h =
         ended-ends (Inferred _) expected ctx (c .self-type) _ h (g .self-type) (leaf _ (c .self-type) _ tt refl (omega arith) (omega arith) (omega arith) (g .self-type))
-    infer-ends (Expr.field-access f e) expected ctx v h = ends.then-ends (ends.refuse-ends (Stored names) (place-type c (field-of f (place e))) _ (omega arith) (place-stored (field-of f (place e)))) (λ t s.
+    infer-ends strings (Expr.field-access f e) expected ctx v h = ends.then-ends (ends.refuse-ends (Stored names) (place-type c (field-of f (place e))) _ (omega arith) (place-stored (field-of f (place e)))) (λ t s.
         ended-ends (Inferred _) expected ctx t _ h s (leaf _ t _ tt refl (omega arith) (omega arith) (omega arith) s))
-    infer-ends (Expr.call f es) expected ctx v h = ends.err-ends _ (omega arith)
-    infer-ends (Expr.trait-method-call t m e es) expected ctx v h = ends.err-ends _ (omega arith)
-    infer-ends (Expr.binary op l r) expected ctx v h =
-        ends.then-ends (infer-ends l (binary-hint c op l r expected) 6 (v .1) (binary-hint-stored op l r expected h)) (λ left i.
-        ends.then-ends (infer-ends r (some (type-of left)) 6 (v .2) (type-of-stored left (i .good))) (λ right j.
+    infer-ends strings (Expr.call f es) expected ctx v h = ends.err-ends _ (omega arith)
+    infer-ends strings (Expr.trait-method-call t m e es) expected ctx v h = ends.err-ends _ (omega arith)
+    infer-ends strings (Expr.binary op l r) expected ctx v h =
+        ends.then-ends (infer-ends strings l (binary-hint c op l r expected) 6 (v .1) (binary-hint-stored op l r expected h)) (λ left i.
+        ends.then-ends (infer-ends strings r (some (type-of left)) 6 (v .2) (type-of-stored left (i .good))) (λ right j.
         let s = type-of-stored left (i .good) in
         ends.ensure-ends (operand-allowed op (type-of left)) _ _ (omega (arith, s .short)) (λ e.
         let t = cond (is-arithmetic op) (type-of left) BOOL in
@@ -161,10 +164,18 @@ module _ (names strings : ℕ) where
         ended-ends (Inferred _) expected ctx t _ h u (record {
           good = (u, (i .good, j .good));
           deep = omega (arith, i .deep, j .deep);
-          small = omega (arith, u .short, i .small, j .small, length-append (run t) (10 ∷ op ∷ (value-words left ++ value-words right)), length-append (value-words left) (value-words right), length-append (expr-words l) (expr-words r));
+          small = omega (
+            arith,
+            u .short,
+            i .small,
+            j .small,
+            length-append (run t) (10 ∷ op ∷ (value-words left ++ value-words right)),
+            length-append (value-words left) (value-words right),
+            length-append (expr-words l) (expr-words r),
+          );
         }))))
-    infer-ends (Expr.unary op e) expected ctx v h =
-        ends.then-ends (infer-ends e expected 7 (v .1) h) (λ value i.
+    infer-ends strings (Expr.unary op e) expected ctx v h =
+        ends.then-ends (infer-ends strings e expected 7 (v .1) h) (λ value i.
         let s = type-of-stored value (i .good) in
         ends.ensure-ends (unary-allowed op (type-of value)) _ _ (omega (arith, s .short)) (λ e′.
         ended-ends (Inferred _) expected ctx (type-of value) _ h s (record {

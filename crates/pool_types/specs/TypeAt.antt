@@ -9,8 +9,8 @@ use Rattle.rules.specs.Kinds.{type-kind}
 use Rattle.rules.specs.ReadTypes.{sub-byte, wide, bits-inline, type-node, type-tree, resolved-type}
 use Rattle.rules.specs.declared.kinds.TypeKind.{TypeKind}
 use Rattle.laws.specs.Types.{Stored, within-true, type-exact}
-use Rattle.reading.specs.Gives.{Gives, Word, Below-at, Counted, then, given, failed, so-then, both, rule-then, word-then, assoc, give-then, below-then, below-gives, many-gives, sized-gives}
-use Rattle.reading.specs.Stands.{Stands, exact-gives}
+use Rattle.reading.specs.Gives.{Gives, Word, Below-at, Counted, then, given, failed, so-then, rule-then, word-then, assoc, give-then, below-then, below-gives, many-gives, sized-gives}
+use Rattle.reading.specs.Stands.{Held, held-gives}
 
 -- the word at `at` is a type's code of kind k
 pub record Node (ws : List ℕ) (at : ℕ) (k : TypeKind) : Type 0 where
@@ -32,11 +32,9 @@ module _ (names : ℕ) (ws : List ℕ) where
   Type-at (ResolvedType.fixed low high t) at n = Node ws at TypeKind.Fixed × Wide-at ws low high (at + 1) × Type-at t (at + 1 + 1 + 1) n
   Type-at (ResolvedType.two c t u) at n = Node ws at TypeKind.Two × (getD ws at 0 ≡ c) × (m : ℕ) × Type-at t (at + 1) m × Type-at u m n
 
-  -- a type as the pool holds it: its parts, its run, and that it is good and at most 64 words long
-  pub record Type-stands (t : ResolvedType) (at n : ℕ) : Type 0 where
-    pub parts : Type-at t at n
-    pub run-at : Stands ws (run t) at n
-    pub stored : Stored names t
+  -- a type as the pool holds it
+  abbrev pub Type-stands : ResolvedType → ℕ → ℕ → Type 0
+  Type-stands = Held Type-at run (Stored names) ws
 
 -- the kind of a type's code
 abbrev pub shape : ResolvedType → TypeKind
@@ -93,4 +91,4 @@ module _ (names : ℕ) (ws : List ℕ) where
 
   pub type-gives : (at : ℕ) → Gives (resolved-type names) ws at (λ t n. Type-stands names ws t at n)
   unfolding resolved-type
-  type-gives at = so-then (both (sized-gives (tree-gives 64 at)) (exact-gives (type-exact names) ws at)) (λ t n h. record { parts = h .0 .0; run-at = h .1 .0; stored = h .1 .1 })
+  type-gives at = held-gives (Type-at names ws) (type-exact names) ws at (so-then (sized-gives (tree-gives 64 at)) (λ t n h. h .0))

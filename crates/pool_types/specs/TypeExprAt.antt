@@ -8,8 +8,8 @@ use Rattle.rules.specs.Kinds.{type-kind}
 use Rattle.rules.specs.ReadTypes.{type-expr-node, type-expr-tree, type-expr}
 use Rattle.rules.specs.declared.kinds.TypeKind.{TypeKind}
 use Rattle.laws.specs.TypeExprs.{StoredExpr, type-expr-exact}
-use Rattle.reading.specs.Gives.{Gives, Word, then, given, failed, so-then, both, word-then, below-then, sized-gives}
-use Rattle.reading.specs.Stands.{Stands, exact-gives}
+use Rattle.reading.specs.Gives.{Gives, Word, then, given, failed, so-then, word-then, below-then, sized-gives}
+use Rattle.reading.specs.Stands.{Held, held-gives}
 use Rattle.pool_types.specs.TypeAt.{Node, Wide-at, wide-then, Type-at, shape, shape-at, sub-gives, bits-gives}
 
 -- over the number of name rows and the words
@@ -24,10 +24,8 @@ module _ (names : ℕ) (ws : List ℕ) where
   Type-expr-at (TypeExpr.two c t u) at n = Node ws at TypeKind.Two × (getD ws at 0 ≡ c) × (m : ℕ) × Type-expr-at t (at + 1) m × Type-expr-at u m n
 
   -- a type expression as the pool holds it
-  pub record Type-expr-stands (e : TypeExpr) (at n : ℕ) : Type 0 where
-    pub parts : Type-expr-at e at n
-    pub run-at : Stands ws (expr-run e) at n
-    pub stored : StoredExpr names e
+  abbrev pub Type-expr-stands : TypeExpr → ℕ → ℕ → Type 0
+  Type-expr-stands = Held Type-expr-at expr-run (StoredExpr names) ws
 
 -- the kind of a type expression's code
 abbrev pub expr-shape : TypeExpr → TypeKind
@@ -70,4 +68,4 @@ module _ (names : ℕ) (ws : List ℕ) where
 
   pub type-expr-gives : (at : ℕ) → Gives (type-expr names) ws at (λ e n. Type-expr-stands names ws e at n)
   unfolding type-expr
-  type-expr-gives at = so-then (both (sized-gives (expr-tree-gives 64 at)) (exact-gives (type-expr-exact names) ws at)) (λ e n h. record { parts = h .0 .0; run-at = h .1 .0; stored = h .1 .1 })
+  type-expr-gives at = held-gives (Type-expr-at names ws) (type-expr-exact names) ws at (so-then (sized-gives (expr-tree-gives 64 at)) (λ e n h. h .0))

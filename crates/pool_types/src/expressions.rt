@@ -25,7 +25,7 @@ pub fn check_type_expr_tree(
         return a;
     }
     let n = a.next;
-    let k = crate::kinds::type_kind(reading::section_word(image, pool, at));
+    let k = kinds::type_kind(reading::section_word(image, pool, at));
     match k {
         TypeKind::Plain => a,
         TypeKind::Sub => crate::parts::check_sub(image, pool, n),

@@ -1,5 +1,4 @@
 // Whether a resolved type or a type expression stands in the pool, as the rules read it.
 pub mod expressions;
-pub mod kinds;
 pub mod parts;
 pub mod resolved;

@@ -19,7 +19,7 @@ pub fn check_tree(image: &[u8], pool: Section, at: usize, names: u32, depth: u32
         return a;
     }
     let n = a.next;
-    let k = crate::kinds::type_kind(reading::section_word(image, pool, at));
+    let k = kinds::type_kind(reading::section_word(image, pool, at));
     match k {
         TypeKind::Plain => a,
         TypeKind::Sub => crate::parts::check_sub(image, pool, n),

@@ -12,15 +12,15 @@ use borrow.Author.Tests.{leb-true}
 use Rattle.rules.specs.Words.{bytes-of, over-start}
 use Rattle.rules.specs.Syntax.{ImplDef, CompiledSchema}
 use Rattle.rules.specs.Image.{readable}
-use Rattle.rules.specs.Refusal.{Refusal, Result, ok, err, _>>=_, refusal}
+use Rattle.rules.specs.Refusal.{Result, ok, err, refusal}
 use Rattle.rules.specs.Bodies.{PortableFunction}
-use Rattle.rules.specs.Project.{find-implementation, project-impl}
 use Rattle.rules.specs.Output.{functions-words}
 use Rattle.rules.specs.Answer.{Answer, refused, accepted, too-short, finished, answered, project-call, project-answer}
 use Rattle.words.specs.Words.{length-bytes-of}
+use Rattle.promises.specs.Projects.{Projects}
 use Rattle.promises.specs.Written.{written, Together}
-use Rattle.promises.proofs.Results.{no-ok, steps, same-ok, goes-on}
-use Rattle.promises.proofs.Numbers.{Numbered, Proper, call-proper}
+use Rattle.promises.proofs.Results.{no-ok, steps, same-ok}
+use Rattle.promises.proofs.Numbers.{Proper, call-proper}
 
 -- what was put over the start is the start
 taken : (bs old : List ℕ) → length bs ≤ length old → take (length bs) (over-start bs old) ≡ bs
@@ -51,22 +51,18 @@ module _ (output detail : List ℕ) where
   wrote : (q : Result (ℕ × List ℕ)) → Proper q → finished q output detail .number ≡ 0 → Wrote q (finished q output detail)
   unfolding finished refused
   wrote (ok p) h e = record { result = p; is-result = refl; bytes = wrote-fitted p _ refl e }
-  wrote (err r) h e = absurd (omega (arith, h .low))
+  wrote (err r) h e = absurd (omega (arith, h .refuses r refl .low))
 
 -- an answer by the detail's length and by what was read
 abbrev opened : (CompiledSchema → Result (ℕ × List ℕ)) → List ℕ → List ℕ → Bool → Option CompiledSchema → Answer
 opened call output detail b r =
     elim b [ true ↦ refused (refusal 1) output detail | false ↦ elim r [ none ↦ refused (refusal 2) output detail | some schema ↦ finished (call schema) output detail ] ]
 
--- number 0 from a call: an implementation of the schema that was read is accepted, and its functions' words were written
+-- number 0 from a call: an implementation is accepted, and its functions' words were written
 pub record Projected (image : List ℕ) (row : ℕ) (a : Answer) : Type 0 where
-  pub schema : CompiledSchema
   pub impl : ImplDef
-  pub visits : ℕ
   pub functions : List PortableFunction
-  pub is-schema : readable image ≡ some schema
-  pub is-impl : find-implementation schema row ≡ ok impl
-  pub is-projected : project-impl schema impl ≡ ok (visits, functions)
+  pub projects : Projects image row impl functions
   pub bytes : written a ≡ bytes-of (functions-words functions)
 
 module _ (image : List ℕ) (row : ℕ) (output detail : List ℕ) where
@@ -77,13 +73,9 @@ module _ (image : List ℕ) (row : ℕ) (output detail : List ℕ) where
       let p = steps _ _ _ (i .behind) in
       let s : _≡_ {A = ℕ × List ℕ} (p .value .0, functions-words (p .value .1)) (w .result) = same-ok _ _ (p .behind) in
       record {
-        schema = schema;
         impl = i .value;
-        visits = p .value .0;
         functions = p .value .1;
-        is-schema = e;
-        is-impl = i .before;
-        is-projected = p .before;
+        projects = record { schema = schema; visits = p .value .0; is-schema = e; is-impl = i .before; is-projected = p .before };
         bytes = w .bytes ∙ ap (λ (q : ℕ × List ℕ). bytes-of (q .1)) (sym s);
       }
 
@@ -141,7 +133,7 @@ module _ (output output′ detail detail′ : List ℕ) (room : length output �
   together-finished (ok p) (err s) g h e = absurd (no-ok _ _ (e p .0 refl))
   together-finished (err r) (ok s) g h e = absurd (no-ok _ _ (e s .1 refl))
   together-finished (err r) (err s) g h e =
-      neither _ _ (λ k. omega (arith, g .low)) (λ k. omega (arith, h .low)) (λ k. omega (arith, g .high)) (λ k. omega (arith, h .high))
+      neither _ _ (λ k. omega (arith, g .refuses r refl .low)) (λ k. omega (arith, h .refuses s refl .low)) (λ k. omega (arith, g .refuses r refl .high)) (λ k. omega (arith, h .refuses s refl .high))
 
   pub together-opened : (call call′ : CompiledSchema → Result (ℕ × List ℕ)) (schema : CompiledSchema) (b : Bool) → Together (finished (call schema) output detail) (finished (call′ schema) output′ detail′)
       → Together (opened call output detail b (some schema)) (opened call′ output′ detail′ b (some schema))

@@ -1,72 +1,45 @@
 -- Each typed function comes from the function of its name, and nothing else is listed.
 use Prim.Native.Nat.{ℕ}
-use mathlib.Core.Path.{_≡_, refl, sym, ap, ap₂, subst, _∙_}
+use mathlib.Core.Path.{_≡_, refl, sym, ap₂, _∙_}
 use mathlib.Core.Bool.{Bool, true, false}
 use mathlib.Core.List.{List, [], _∷_, map}
 use mathlib.Core.Option.{Option, none, some}
-use native.Mathlib.Omega.{arith}
 use lib.Dec.{eqb}
 use borrow.Author.Tests.{eqb-true}
 use Rattle.rules.specs.Words.{member}
-use Rattle.rules.specs.Syntax.{Statement, FnBody, ImplFnDef, ImplDef, MessageDef, CompiledSchema}
-use Rattle.rules.specs.Refusal.{Result, ok, _>>=_}
+use Rattle.rules.specs.Syntax.{ImplFnDef, ImplDef, MessageDef, CompiledSchema}
+use Rattle.rules.specs.Refusal.{ok, or-refuse}
 use Rattle.rules.specs.Signatures.{PortableSignature}
-use Rattle.rules.specs.Bodies.{PortableStatement, PortableFunction, block-of, project-function}
+use Rattle.rules.specs.CheckSignature.{check-signature}
+use Rattle.rules.specs.Bodies.{PortableFunction, block-of, project-statements, project-function}
 use Rattle.rules.specs.Project.{no-stranger, find-function, project-list, project-impl}
+use Rattle.laws.specs.Clash.{clash}
 use Rattle.laws.specs.Good.{All}
-use Rattle.promises.specs.Bare.{bare, SameFunction, SameBodies}
-use Rattle.promises.proofs.Results.{no-ok, steps, ensured, found, same-ok}
-use Rattle.promises.proofs.Erase.{erase-statement, erased}
-use Rattle.promises.proofs.Parts.{Parts, parts}
+use Rattle.laws_answers.specs.Ends as ends
+use Rattle.laws_answers.specs.Ends.{Ends, Any}
+use Rattle.laws_answers.specs.Erased.{any-ends}
+use Rattle.laws_answers.specs.ErasedBodies.{Comes, project-erased}
+use Rattle.promises.specs.Bare.{SameFunction, SameBodies}
+use Rattle.promises.proofs.Results.{ensured, found}
+use Rattle.promises.proofs.Parts.{parts}
 
--- a typed function is made of the function of its name
-pub record From (impl : ImplDef) (f : PortableFunction) : Type 0 where
-  pub actual : ImplFnDef
-  pub statements : List Statement
-  pub is-found : find-function (f .name) (impl .functions) ≡ some actual
-  pub is-block : actual .body ≡ FnBody.block statements
-  pub is-bare : map erase-statement (f .statements) ≡ bare statements
+-- typed functions have the names that were expected, in that order
+abbrev names : List PortableFunction → List ℕ
+names fs = map (λ f. f .name) fs
 
-blocked : (f : ℕ) (b : FnBody) (ss : List Statement) → block-of f b ≡ ok ss → b ≡ FnBody.block ss
-unfolding block-of
-blocked f FnBody.external ss q = absurd (no-ok _ _ q)
-blocked f (FnBody.block rs) ss q = ap FnBody.block (same-ok _ _ q)
-
-module _ (impl : ImplDef) (message : MessageDef) where
-  made-from : (s : PortableSignature) (actual : ImplFnDef) (f : PortableFunction) → find-function (s .name) (impl .functions) ≡ some actual → project-function actual s message impl ≡ ok f
-      → From impl f × (f .name ≡ s .name)
-  unfolding project-function
-  made-from s actual f h q =
-      let b = steps _ _ _ q in
-      let p = steps _ _ _ (b .behind) in
-      let e = same-ok _ _ (p .behind) in
-      rw (← e) (record {
-        actual = actual;
-        statements = b .value;
-        is-found = h;
-        is-block = blocked _ _ _ (b .before);
-        is-bare = erased _ _ (b .value) (p .value) (p .before);
-      }, refl)
-
-  -- all of a list, under the names that were expected
-  all-from : (ss : List PortableSignature) (fs : List PortableFunction) → project-list impl message ss ≡ ok fs
-      → All (From impl) fs × (map (λ f. f .name) fs ≡ map (λ s. s .name) ss)
-  unfolding project-list
-  all-from [] fs q = let e = same-ok _ _ q in rw (← e) (tt, refl)
-  all-from (s ∷ ss) fs q =
-      let a = steps _ _ _ q in
-      let c = steps _ _ _ (a .behind) in
-      let f = steps _ _ _ (c .behind) in
-      let r = steps _ _ _ (f .behind) in
-      let e = same-ok _ _ (r .behind) in
-      let m = made-from s (a .value) (f .value) (found _ _ _ (a .before)) (f .before) in
-      let n = all-from ss (r .value) (r .before) in
-      rw (← e) ((m .0, n .0), ap₂ _∷_ (m .1) (n .1))
+names-expected : (i : ImplDef) (m : MessageDef) (ss : List PortableSignature) → Ends Any (project-list i m ss) (λ fs. names fs ≡ map (λ s. s .name) ss)
+unfolding project-list project-function
+names-expected i m [] = ends.ok-ends [] _ refl
+names-expected i m (s ∷ ss) =
+    ends.then-ends (any-ends (or-refuse (find-function (s .name) (i .functions)) _)) (λ f _.
+    ends.then-ends (any-ends (check-signature f s)) (λ _ _.
+    ends.then-ends (ends.then-ends (any-ends (block-of (f .name) (f .body))) (λ b _. ends.then-ends (any-ends (project-statements (s .return-type) _ b)) (λ ps _. ends.ok-ends _ (λ g. g .name ≡ s .name) refl))) (λ g p.
+    ends.then-ends (names-expected i m ss) (λ gs q. ends.ok-ends _ _ (ap₂ _∷_ p q)))))
 
 -- a function of no known name is not found
 known-found : (known : List ℕ) (fs : List ImplFnDef) (x : ℕ) (f : ImplFnDef) → no-stranger known fs ≡ ok tt → find-function x fs ≡ some f → member x known ≡ true
 unfolding no-stranger find-function
-known-found known [] x f q h = absurd (let z : _≡_ {A = ℕ} 0 1 = cc in omega arith)
+known-found known [] x f q h = clash (cc)
 known-found known (g ∷ fs) x f q h = go (eqb x (g .name)) refl h (ensured _ _ _ _ q) (known-found known fs x f)
   where
     go : (b : Bool) → eqb x (g .name) ≡ b → (elim b [ true ↦ some g | false ↦ find-function x fs ]) ≡ some f → (member (g .name) known ≡ true) × (no-stranger known fs ≡ ok tt)
@@ -76,18 +49,18 @@ known-found known (g ∷ fs) x f q h = go (eqb x (g .name)) refl h (ensured _ _ 
 
 -- a name is listed or not
 module _ (i j : ImplDef) (x : ℕ) where
-  picked : (fs : List PortableFunction) → All (From i) fs → All (From j) fs → member x (map (λ f. f .name) fs) ≡ true
+  picked : (fs : List PortableFunction) → All (Comes (i .functions)) fs → All (Comes (j .functions)) fs → member x (names fs) ≡ true
       → SameFunction (find-function x (i .functions)) (find-function x (j .functions))
   unfolding member
-  picked [] a b q = absurd (let z : _≡_ {A = ℕ} 0 1 = cc in omega arith)
+  picked [] a b q = clash (cc)
   picked (f ∷ fs) a b q = go (eqb x (f .name)) refl q (picked fs (a .1) (b .1))
     where
-      go : (t : Bool) → eqb x (f .name) ≡ t → (elim t [ true ↦ true | false ↦ member x (map (λ f. f .name) fs) ]) ≡ true
-          → (member x (map (λ f. f .name) fs) ≡ true → SameFunction (find-function x (i .functions)) (find-function x (j .functions)))
+      go : (t : Bool) → eqb x (f .name) ≡ t → (elim t [ true ↦ true | false ↦ member x (names fs) ]) ≡ true
+          → (member x (names fs) ≡ true → SameFunction (find-function x (i .functions)) (find-function x (j .functions)))
           → SameFunction (find-function x (i .functions)) (find-function x (j .functions))
       go true e q ih =
-          rw (eqb-true x (f .name) e, a .0 .is-found, b .0 .is-found)
-          (record { left = a .0 .statements; right = b .0 .statements; is-left = a .0 .is-block; is-right = b .0 .is-block; same = sym (a .0 .is-bare) ∙ b .0 .is-bare })
+          rw (eqb-true x (f .name) e, a .0 .found, b .0 .found)
+          (record { left = a .0 .statements; right = b .0 .statements; is-left = a .0 .block; is-right = b .0 .block; same = sym (a .0 .same) ∙ b .0 .same })
       go false e q ih = ih q
 
   not-listed : (known : List ℕ) → no-stranger known (i .functions) ≡ ok tt → no-stranger known (j .functions) ≡ ok tt → member x known ≡ false
@@ -96,8 +69,8 @@ module _ (i j : ImplDef) (x : ℕ) where
     where
       go : (o p : Option ImplFnDef) → find-function x (i .functions) ≡ o → find-function x (j .functions) ≡ p → SameFunction o p
       go none none g h = tt
-      go none (some f) g h = absurd (let k = known-found known (j .functions) x f q h in let z : _≡_ {A = ℕ} 0 1 = cc in omega arith)
-      go (some f) o g h = absurd (let k = known-found known (i .functions) x f p g in let z : _≡_ {A = ℕ} 0 1 = cc in omega arith)
+      go none (some f) g h = let k = known-found known (j .functions) x f q h in clash (cc)
+      go (some f) o g h = let k = known-found known (i .functions) x f p g in clash (cc)
 
 -- implementations with the same typed functions have the same bodies
 pub same-bodies : (schema : CompiledSchema) (i j : ImplDef) (v w : ℕ) (fs : List PortableFunction)
@@ -105,14 +78,12 @@ pub same-bodies : (schema : CompiledSchema) (i j : ImplDef) (v w : ℕ) (fs : Li
 same-bodies schema i j v w fs p q x =
     let a = parts schema i _ p in
     let b = parts schema j _ q in
-    let c = all-from i (a .message) (a .expected) fs (a .projected) in
-    let d = all-from j (b .message) (b .expected) fs (b .projected) in
-    let s : no-stranger (map (λ f. f .name) fs) (i .functions) ≡ ok tt = rw (c .1) (a .no-strangers) in
-    let t : no-stranger (map (λ f. f .name) fs) (j .functions) ≡ ok tt = rw (d .1) (b .no-strangers) in
-    go (member x (map (λ f. f .name) fs)) refl (c .0) (d .0) s t
+    let s : no-stranger (names fs) (i .functions) ≡ ok tt = rw (names-expected i (a .message) (a .expected) .gives fs (a .projected)) (a .no-strangers) in
+    let t : no-stranger (names fs) (j .functions) ≡ ok tt = rw (names-expected j (b .message) (b .expected) .gives fs (b .projected)) (b .no-strangers) in
+    go (member x (names fs)) refl (project-erased schema i .gives (v, fs) p) (project-erased schema j .gives (w, fs) q) s t
   where
-    go : (m : Bool) → member x (map (λ f. f .name) fs) ≡ m → All (From i) fs → All (From j) fs
-        → no-stranger (map (λ f. f .name) fs) (i .functions) ≡ ok tt → no-stranger (map (λ f. f .name) fs) (j .functions) ≡ ok tt
+    go : (m : Bool) → member x (names fs) ≡ m → All (Comes (i .functions)) fs → All (Comes (j .functions)) fs
+        → no-stranger (names fs) (i .functions) ≡ ok tt → no-stranger (names fs) (j .functions) ≡ ok tt
         → SameFunction (find-function x (i .functions)) (find-function x (j .functions))
     go true e a b s t = picked i j x fs a b e
     go false e a b s t = not-listed i j x _ s t e

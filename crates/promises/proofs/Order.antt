@@ -3,20 +3,20 @@ use Prim.Native.Nat.{ℕ}
 use mathlib.Core.Path.{_≡_, refl, sym, ap, _∙_}
 use mathlib.Core.Logic.{_↔_}
 use mathlib.Core.Bool.{Bool, true, false, not}
-use mathlib.Core.List.{List, [], _∷_, map}
-use mathlib.Core.Option.{Option, none, some}
-use native.Mathlib.Omega.{arith}
+use mathlib.Core.List.{List, [], _∷_}
+use mathlib.Core.Option.{Option, some}
 use lib.Dec.{eqb}
 use borrow.Author.Tests.{eqb-true, eq-eqb}
 use Rattle.rules.specs.Words.{member}
 use Rattle.rules.specs.Syntax.{ImplFnDef, ImplDef, MessageDef, TraitDef, CompiledSchema}
-use Rattle.rules.specs.Refusal.{Result, ok, err, _>>=_, ensure, or-refuse, in-function}
+use Rattle.rules.specs.Refusal.{Result, ok, _>>=_, ensure}
 use Rattle.rules.specs.Signatures.{PortableSignature, find-trait, expected-functions}
 use Rattle.rules.specs.Bodies.{PortableFunction, project-function}
 use Rattle.rules.specs.Project.{no-repeat, no-stranger, find-function, project-list, target-message, project-impl}
+use Rattle.laws.specs.Clash.{clash}
 use Rattle.promises.specs.Order.{Reordered, same, swap, keep, both, Relisted}
-use Rattle.promises.proofs.Results.{no-ok, steps, ensured, found, same-ok, goes-on, is-there}
-use Rattle.promises.proofs.Parts.{Parts, parts, whole}
+use Rattle.promises.proofs.Results.{ensured, found, is-there}
+use Rattle.promises.proofs.Parts.{parts, whole}
 
 -- the other way round
 back : {fs gs : List ImplFnDef} → Reordered fs gs → Reordered gs fs
@@ -29,7 +29,7 @@ back (both r s) = both (back s) (back r)
 held : {B : Type 0} (t : Bool) (f : Unit {0} → Result B) (b : B) (r : _) → t ≡ true → f tt ≡ ok b → (ensure t r >>= f) ≡ ok b
 unfolding ensure _>>=_
 held true f b r e q = q
-held false f b r e q = absurd (let z : _≡_ {A = ℕ} 0 1 = cc in omega arith)
+held false f b r e q = clash (cc)
 
 -- ---- no repeat depends on what was seen as a set
 
@@ -61,7 +61,7 @@ unfolding member
 new-of x y s e = go (eqb x y) refl e
   where
     go : (b : Bool) → eqb x y ≡ b → not (seen-or b (member x s)) ≡ true → (eqb x y ≡ false) × (not (member x s) ≡ true)
-    go true p q = absurd (let z : _≡_ {A = ℕ} 0 1 = cc in omega arith)
+    go true p q = clash (cc)
     go false p q = (p, q)
 
 new-both : (x y : ℕ) (s : List ℕ) → eqb x y ≡ false → not (member x s) ≡ true → not (member x (y ∷ s)) ≡ true
@@ -72,7 +72,7 @@ apart-back : (x y : ℕ) → eqb x y ≡ false → eqb y x ≡ false
 apart-back x y p = go (eqb y x) refl
   where
     go : (b : Bool) → eqb y x ≡ b → b ≡ false
-    go true q = absurd (let e : eqb x y ≡ true = eq-eqb x y (sym (eqb-true y x q)) in let z : _≡_ {A = ℕ} 0 1 = cc in omega arith)
+    go true q = let e : eqb x y ≡ true = eq-eqb x y (sym (eqb-true y x q)) in clash (cc)
     go false q = refl
 
 -- ---- the three tests that read the list of functions
@@ -91,9 +91,8 @@ swap-found x f g fs p = go (eqb x (f .name)) (eqb x (g .name)) refl refl
   where
     go : (a b : Bool) → eqb x (f .name) ≡ a → eqb x (g .name) ≡ b → found-or a f (found-or b g (find-function x fs)) ≡ found-or b g (found-or a f (find-function x fs))
     go true true q r =
-        absurd
-        (let e : eqb (g .name) (f .name) ≡ true = eq-eqb (g .name) (f .name) (sym (eqb-true x (g .name) r) ∙ eqb-true x (f .name) q) in
-        let z : _≡_ {A = ℕ} 0 1 = cc in omega arith)
+        let e : eqb (g .name) (f .name) ≡ true = eq-eqb (g .name) (f .name) (sym (eqb-true x (g .name) r) ∙ eqb-true x (f .name) q) in
+        clash (cc)
     go true false q r = refl
     go false true q r = refl
     go false false q r = refl

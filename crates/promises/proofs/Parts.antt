@@ -3,7 +3,7 @@ use Prim.Native.Nat.{ℕ}
 use mathlib.Core.Path.{_≡_, refl}
 use mathlib.Core.List.{List, [], map}
 use Rattle.rules.specs.Syntax.{MessageDef, TraitDef, ImplDef, CompiledSchema}
-use Rattle.rules.specs.Refusal.{Result, ok, _>>=_}
+use Rattle.rules.specs.Refusal.{ok}
 use Rattle.rules.specs.Signatures.{PortableSignature, find-trait, expected-functions}
 use Rattle.rules.specs.Bodies.{PortableFunction}
 use Rattle.rules.specs.Project.{no-repeat, no-stranger, project-list, target-message, project-impl}

@@ -2,10 +2,10 @@
 use Prim.Native.Nat.{ℕ, zero, suc, _-_, _<_, _≤_}
 use mathlib.Core.Path.{_≡_, refl, subst}
 use mathlib.Core.Bool.{Bool, true, false, _||_}
-use mathlib.Core.List.{List, [], _∷_, _++_}
+use mathlib.Core.List.{List, [], _++_}
 use mathlib.Core.Option.{Option, none, some}
 use native.Mathlib.Omega.{arith}
-use lib.ListN.{length, drop, take}
+use lib.ListN.{length, drop}
 use lib.Dec.{ltb, eqb}
 use borrow.Author.Tests.{ltb-true, eqb-true}
 use Rattle.rules.specs.Words.{NONE, words}
@@ -14,16 +14,17 @@ use Rattle.rules.specs.Reader.{Rest, rest-at, Reader, from, repeat, times}
 use Rattle.rules.specs.Kinds.{definition-kind}
 use Rattle.rules.specs.declared.kinds.DefinitionKind.{DefinitionKind}
 use Rattle.rules.specs.Image.{part, Trailer, trailer, alias-at, name-row, string-row, definition-node, definition-row, rows, sections, schema, readable}
+use Rattle.laws.specs.Clash.{clash}
 use Rattle.laws.specs.Good.{All, AllOption, Below}
 use Rattle.laws.specs.Gives as gives
 use Rattle.laws.specs.Gives.{Gives}
 use Rattle.laws.specs.Exact.{Exact}
 use Rattle.laws.specs.Types.{type-exact}
 use Rattle.laws.specs.Definitions.{message-exact, generic-alias-exact, trait-exact, implementation-exact}
-use Rattle.laws.specs.GoodSchema.{GoodName, GoodSchema}
+use Rattle.laws.specs.GoodSchema.{GoodName}
 use Rattle.laws.specs.Schema.{readable-good}
 use Rattle.promises.proofs.Small.{WORD, Small, small-left, small-words, all-take, all-drop, all-both}
-use Rattle.promises.proofs.Substituted.{SmallType, SmallName, SmallDefinition, SmallSchema}
+use Rattle.promises.proofs.SmallSchema.{SmallType, SmallName, SmallDefinition, SmallSchema}
 
 -- so many readings, of each of which something holds
 times-all : {A : Type 0} {r : Reader A} {P : A → Type 0} → Gives r (λ a ws. P a) → (n : ℕ) → Gives (times n r) (λ xs ws. All P xs)
@@ -105,7 +106,7 @@ module _ (image : List ℕ) (bytes : Below 256 image) where
     where
       go : (o : Option (CompiledSchema × Rest)) → schema image (length image) (rest-at [] 0) ≡ o
           → _≡_ {A = Option CompiledSchema} (elim o as (λ _. Option CompiledSchema) [ none ↦ none | some p ↦ some (p .0) ]) (some s) → SmallRows s
-      go none q e = absurd (let z : _≡_ {A = ℕ} 0 1 = cc in omega arith)
+      go none q e = clash (cc)
       go (some p) q e = let same : p .0 ≡ s = cc in subst SmallRows same (schema-small .found (rest-at [] 0) (p .0) (p .1) q .holds)
 
   -- a definition's number, or NONE
@@ -115,13 +116,13 @@ module _ (image : List ℕ) (bytes : Below 256 image) where
       go : (a b : Bool) → ltb n rows ≡ a → eqb n NONE ≡ b → (a || b) ≡ true → n < WORD
       go true b p q e = omega (arith, ltb-true n rows p)
       go false true p q e = omega (arith, eqb-true n NONE q)
-      go false false p q e = absurd (let z : _≡_ {A = ℕ} 0 1 = cc in omega arith)
+      go false false p q e = clash (cc)
 
   pub readable-small : (s : CompiledSchema) → readable image ≡ some s → SmallSchema s
   readable-small s e =
       let good = readable-good image s e .1 in
       let small = readable-rows s e in
       record {
-        names = all-both (GoodName _ _ _) SmallAlias SmallName (λ n g h. record { definition = row-small (n .definition) _ (good .few-definitions) (g .definition); alias = h }) (s .names) (good .names-good) (small .aliases);
+        names = all-both (GoodName _ _) SmallAlias SmallName (λ n g h. record { definition = row-small (n .definition) _ (good .few-definitions) (g .definition); alias = h }) (s .names) (good .names-good) (small .aliases);
         definitions = small .definitions;
       }

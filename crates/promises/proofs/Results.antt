@@ -1,14 +1,13 @@
 -- What an accepted step of the rules tells: each part of it was accepted.
-use Prim.Native.Nat.{ℕ}
 use mathlib.Core.Path.{_≡_, refl}
 use mathlib.Core.Bool.{Bool, true, false}
 use mathlib.Core.Option.{Option, none, some}
-use native.Mathlib.Omega.{arith}
 use Rattle.rules.specs.Refusal.{Refusal, Result, ok, err, _>>=_, ensure, or-refuse}
+use Rattle.laws.specs.Clash.{clash}
 
 -- a refusal is no acceptance
 pub no-ok : {A : Type 0} (r : Refusal) (a : A) → err r ≡ ok a → ⊥
-no-ok r a e = let z : _≡_ {A = ℕ} 0 1 = cc in omega arith
+no-ok r a e = clash (cc)
 
 -- a step and what follows it
 pub record Steps {A B : Type 0} (r : Result A) (f : A → Result B) (b : B) : Type 0 where
@@ -42,5 +41,5 @@ goes-on (err r) f a b p q = absurd (no-ok r a p)
 
 pub is-there : {A : Type 0} (o : Option A) (r : Refusal) (a : A) → o ≡ some a → or-refuse o r ≡ ok a
 unfolding or-refuse
-is-there none r a e = absurd (let z : _≡_ {A = ℕ} 0 1 = cc in omega arith)
+is-there none r a e = clash (cc)
 is-there (some b) r a e = cc

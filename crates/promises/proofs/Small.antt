@@ -1,5 +1,5 @@
 -- Lists of numbers below a limit, and the limit of a word.
-use Prim.Native.Nat.{ℕ, zero, suc, _+_, _*_, _<_, _≤_}
+use Prim.Native.Nat.{ℕ, zero, suc, _<_}
 use mathlib.Core.List.{List, [], _∷_, _++_}
 use mathlib.Core.Option.{Option, none, some}
 use native.Mathlib.Omega.{arith}
@@ -16,10 +16,6 @@ WORD = 4294967296
 -- words, each below it
 abbrev pub Small : List ℕ → Type 0
 Small ws = Below WORD ws
-
-pub below-more : (m n : ℕ) (xs : List ℕ) → m ≤ n → Below m xs → Below n xs
-below-more m n [] l h = tt
-below-more m n (x ∷ xs) l h = (omega (arith, h .0), below-more m n xs l (h .1))
 
 module _ {A : Type 0} (P : A → Type 0) where
   pub all-append : (xs ys : List A) → All P xs → All P ys → All P (xs ++ ys)
@@ -43,10 +39,6 @@ module _ {A : Type 0} (P : A → Type 0) where
   all-drop zero xs h = h
   all-drop (suc n) [] h = tt
   all-drop (suc n) (x ∷ xs) h = all-drop n xs (h .1)
-
-pub all-map : {A : Type 0} (P Q : A → Type 0) → ((x : A) → P x → Q x) → (xs : List A) → All P xs → All Q xs
-all-map P Q k [] g = tt
-all-map P Q k (x ∷ xs) g = (k x (g .0), all-map P Q k xs (g .1))
 
 pub all-both : {A : Type 0} (P Q R : A → Type 0) → ((x : A) → P x → Q x → R x) → (xs : List A) → All P xs → All Q xs → All R xs
 all-both P Q R k [] g h = tt

@@ -1,7 +1,7 @@
 -- Substitution in a schema of small words gives types of small words.
 use Prim.Native.Nat.{ℕ, zero, suc, _<_}
 use mathlib.Core.Bool.{Bool, true, false, cond}
-use mathlib.Core.List.{List, [], _∷_, _++_}
+use mathlib.Core.List.{List, [], _∷_}
 use mathlib.Core.Option.{Option, none, some}
 use native.Mathlib.Omega.{arith}
 use lib.ListN.{getElem?}
@@ -10,32 +10,15 @@ use Rattle.rules.specs.Words.{NONE, same}
 use Rattle.rules.specs.Syntax.{ResolvedType, TypeExpr, run, expr-run, Param, Name, TypeDef, CompiledSchema}
 use Rattle.rules.specs.Options.{then, or, or-else}
 use Rattle.rules.specs.Types.{POISON}
-use Rattle.rules.specs.Substitute.{Counted, too-large, done, after, bounded, primitive, number, definition-of, find-text, find-param, one-parameter, lookup, lookup-primitive-alias, lookup-alias, lookup-qualified, named-or-poison, resolve-name, expand, substitute-node, substitute-depth, substitute-type}
+use Rattle.rules.specs.Substitute.{Counted, primitive, number, definition-of, find-text, find-param, one-parameter, lookup, lookup-primitive-alias, lookup-alias, lookup-qualified, named-or-poison, resolve-name, expand, substitute-node, substitute-depth, substitute-type}
 use Rattle.rules.specs.Output.{listed}
 use Rattle.laws.specs.Good.{All, AllOption}
 use Rattle.laws.specs.Each.{at-all, then-all, then-any}
-use Rattle.laws.specs.DefinitionRuns.{own, message-words, generic-alias-words, trait-words, implementation-words}
-use Rattle.laws.specs.Substitution.{Counts, too-large-counts, after-counts, bounded-counts, Accepted}
+use Rattle.laws.specs.DefinitionRuns.{own, generic-alias-words}
+use Rattle.laws.specs.Counts.{Counts, too-large-counts, after-counts}
+use Rattle.laws.specs.Substitution.{bounded-counts, Accepted}
 use Rattle.promises.proofs.Small.{WORD, Small, small-append, small-left, small-right}
-
--- a type, a name and a definition of small words
-abbrev pub SmallType : ResolvedType → Type 0
-SmallType t = Small (run t)
-
-pub record SmallName (n : Name) : Type 0 where
-  pub definition : n .definition < WORD
-  pub alias : AllOption SmallType (n .alias)
-
-abbrev pub SmallDefinition : TypeDef → Type 0
-SmallDefinition TypeDef.other = Unit {0}
-SmallDefinition (TypeDef.message m) = Small (message-words m)
-SmallDefinition (TypeDef.generic-alias a) = Small (generic-alias-words a)
-SmallDefinition (TypeDef.trait t) = Small (trait-words t)
-SmallDefinition (TypeDef.implementation i) = Small (implementation-words i)
-
-pub record SmallSchema (schema : CompiledSchema) : Type 0 where
-  pub names : All SmallName (schema .names)
-  pub definitions : All SmallDefinition (schema .definitions)
+use Rattle.promises.proofs.SmallSchema.{SmallType, SmallName, SmallDefinition, SmallSchema, small-or-else}
 
 abbrev SmallArgument : Param ResolvedType → Type 0
 SmallArgument p = SmallType (p .ty)
@@ -95,11 +78,6 @@ small-param x (p ∷ ps) h = go (eqb x (p .name)) (small-param x ps (h .1))
     go : (b : Bool) → AllOption SmallType (find-param x ps) → AllOption SmallType (elim b as (λ _. Option ResolvedType) [ true ↦ some (p .ty) | false ↦ find-param x ps ])
     go true ih = h .0
     go false ih = ih
-
-small-or-else : (o p : Option ResolvedType) → AllOption SmallType o → AllOption SmallType p → AllOption SmallType (or-else o p)
-unfolding or-else
-small-or-else none p g h = h
-small-or-else (some t) p g h = g
 
 small-or : (o : Option ResolvedType) (t : ResolvedType) → AllOption SmallType o → SmallType t → SmallType (or o t)
 unfolding or

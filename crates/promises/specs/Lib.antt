@@ -1,4 +1,7 @@
 pub mod Bare
 pub mod Order
 pub mod Written
+pub mod Projects
 pub mod Promises
+pub mod Wrong
+pub mod Sample

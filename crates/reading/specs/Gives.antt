@@ -1,7 +1,7 @@
 -- What a reader gives, and where it stands: one law for each step of a reader.
 use Prim.Native.Nat.{ℕ, zero, suc, _+_, _-_, _<_, _≤_}
 use mathlib.Core.Path.{_≡_, refl, sym, ap, subst, _∙_}
-use mathlib.Core.Bool.{Bool, true, false}
+use mathlib.Core.Bool.{Bool, true, false, cond}
 use mathlib.Core.List.{List, [], _∷_}
 use mathlib.Core.Option.{Option, none, some}
 use native.Mathlib.Omega.{arith}
@@ -136,6 +136,11 @@ sized-gives h = place-then _ (then h (λ t n p. place-then _ (rule-then _ _ (λ 
 pub below-gives : (limit : ℕ) (ws : List ℕ) (at : ℕ) → Gives (below limit) ws at (λ w n. Below-at ws limit w at n)
 unfolding below
 below-gives limit ws at = word-then (λ w i. rule-then _ _ (λ l. given _ (i, ltb-true w limit l, refl)))
+
+-- either of two readings
+pub either : {A : Type 0} {ws : List ℕ} {at : ℕ} {P : A → ℕ → Type 0} (b : Bool) {r s : Reader A} → (b ≡ true → Gives r ws at P) → (b ≡ false → Gives s ws at P) → Gives (cond b r s) ws at P
+either true g h = g refl
+either false g h = h refl
 
 -- readings one behind the other, counted readings, a reading that may be absent
 module _ {A : Type 0} (Q : A → ℕ → ℕ → Type 0) {r : Reader A} {ws : List ℕ} (q : (at : ℕ) → Gives r ws at (λ a n. Q a at n)) where

@@ -1,7 +1,7 @@
 -- From what the code saw to what the reader says, one law for each step of a reader.
 use Prim.Native.Nat.{ℕ, zero, suc, _+_, _-_, _<_, _≤_}
 use mathlib.Core.Path.{_≡_, refl, sym, ap, subst, _∙_}
-use mathlib.Core.Bool.{Bool, true, false}
+use mathlib.Core.Bool.{Bool, true, false, cond}
 use mathlib.Core.List.{List}
 use mathlib.Core.Option.{Option, none, some}
 use native.Mathlib.Omega.{arith}
@@ -80,6 +80,14 @@ give-then a f h = record { is = h .is }
 pub assoc : {A B C : Type 0} (r : Reader A) (f : A → Reader B) (g : B → Reader C) {ws : List ℕ} {at : ℕ} {d : Checked} → Says (r >>= λ a. f a >>= g) ws at d → Says (r >>= f >>= g) ws at d
 unfolding _>>=_
 assoc {C = C} r f g {ws} {at} {d} h = record { is = subst (λ (o : Option (C × Rest)). Agrees ws o d) (assoc-o (r (rest-at ws at)) f g) (h .is) }
+
+-- either of two readings
+module _ {A : Type 0} (r s : Reader A) {b : Bool} {ws : List ℕ} {at : ℕ} {c : Checked} where
+  pub either-first : b ≡ true → Says r ws at c → Says (cond b r s) ws at c
+  either-first e h = rw e h
+
+  pub either-second : b ≡ false → Says s ws at c → Says (cond b r s) ws at c
+  either-second e h = rw e h
 
 -- a word by itself
 module _ {image : List ℕ} {s : Section} (lies : Lies image s) {at : ℕ} where
@@ -176,6 +184,10 @@ got {A} {r} {ws} {at} {c} s y = got-o ws (r (rest-at ws at)) c (s .is) y
 pub got-so : {A : Type 0} {r : Reader A} {ws : List ℕ} {at : ℕ} {P : A → ℕ → Type 0} {c : Checked} → Gives r ws at P → Says r ws at c → c .ok ≡ true
     → (a : A) × (r (rest-at ws at) ≡ some (a, rest-at ws (c .next))) × P a (c .next)
 got-so g s y = let x = got s y in (x .0, x .1, gives.of g (x .1) .1)
+
+-- the word that was found under a limit
+pub below-value : (limit : ℕ) {ws : List ℕ} {at : ℕ} {c : Checked} → Says (below limit) ws at c → c .ok ≡ true → getD ws at 0 < limit
+below-value limit {ws} {at} s y = let x = got-so (gives.below-gives limit ws at) s y in omega (arith, x .2 .0 .is, x .2 .1)
 
 -- the code refuses only where nothing is given
 none-o : {A : Type 0} (ws : List ℕ) (o : Option (A × Rest)) (c : Checked) → Agrees ws o c → c .ok ≡ false → o ≡ none

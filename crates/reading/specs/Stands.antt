@@ -9,7 +9,7 @@ use lib.Seq.{drop-drop, drop-at}
 use Rattle.rules.specs.Reader.{Rest, rest-at, Reader}
 use Rattle.laws.specs.Exact as exact
 use Rattle.laws.specs.Exact.{Exact}
-use Rattle.reading.specs.Gives.{Yields, Gives}
+use Rattle.reading.specs.Gives.{Yields, Gives, so-then, both}
 
 -- the words of a run stand at `at` and end before n
 pub record Stands (ws run : List ℕ) (at n : ℕ) : Type 0 where
@@ -34,3 +34,13 @@ exact-gives {A} {r} {words} {Good} e ws at = record {
       sym (drop-at (words a) (q .left) (length (words a)) refl) ∙ ap (drop (length (words a))) (sym (s .0)) ∙ drop-drop (length (words a)) at ws ∙ ap (λ (k : ℕ). drop k ws) (sym (s .1)) in
       (ap (λ (l : List ℕ). record { at = q .at; left = l }) rest, (record { left = s .0 ∙ ap (λ (l : List ℕ). words a ++ l) rest; next = s .1 }, s .2)));
 }
+
+-- something as the image holds it: where its parts stand, that its words stand there, and that it is good
+pub record Held {A : Type 0} (At : A → ℕ → ℕ → Type 0) (words : A → List ℕ) (Good : A → Type 0) (ws : List ℕ) (a : A) (at n : ℕ) : Type 0 where
+  pub parts : At a at n
+  pub words-at : Stands ws (words a) at n
+  pub good : Good a
+
+pub held-gives : {A : Type 0} (At : A → ℕ → ℕ → Type 0) {r : Reader A} {words : A → List ℕ} {Good : A → Type 0} → Exact r words Good → (ws : List ℕ) (at : ℕ)
+    → Gives r ws at (λ a n. At a at n) → Gives r ws at (λ a n. Held At words Good ws a at n)
+held-gives At e ws at g = so-then (both g (exact-gives e ws at)) (λ a n h. record { parts = h .0; words-at = h .1 .0; good = h .1 .1 })

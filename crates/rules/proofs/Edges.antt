@@ -1,7 +1,6 @@
 -- Every row of the two tables holds, by computation.
 use mathlib.Core.Path.{_≡_, refl}
 use mathlib.Core.List.{List, map}
-use Prim.Native.Nat.{ℕ}
 use Rattle.rules.specs.Computed.{computed}
 use Rattle.rules.specs.Edges.{Row, table, guards, answer-to}
 

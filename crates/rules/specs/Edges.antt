@@ -1,10 +1,11 @@
 -- At the edges: document 01's P cases as one table, a question with its answer's words in each row, and rows that guard what is easy to get wrong.
 -- The claims that every row holds stand in proofs/.
-use Prim.Native.Nat.{ℕ, _^_, _-_, _/_, _%_}
+use Prim.Native.Nat.{ℕ, zero, suc, _^_, _-_, _/_, _%_}
 use mathlib.Core.List.{List, [], _∷_, _++_}
 use mathlib.Core.Option.{Option, none, some}
+use lib.ListN.{length}
 use Rattle.rules.specs.Words.{NONE, bytes-of}
-use Rattle.rules.specs.Syntax.{ResolvedType, TypeExpr, Expr, FnBody, Param, Name, ImplFnDef, TraitReturn, TraitFnDef, TypeDef, CompiledSchema, run}
+use Rattle.rules.specs.Syntax.{ResolvedType, TypeExpr, Expr, FnBody, Param, ImplFnDef, TraitReturn, TraitFnDef, TypeDef, CompiledSchema, run}
 use Rattle.rules.specs.Types.{BOOL, STRING, I64}
 use Rattle.rules.specs.Refusal.{Result, ok, err}
 use Rattle.rules.specs.Substitute.{Counted, too-large, done, substitute-type}
@@ -34,15 +35,16 @@ unfoldable pub projected-words : Result (ℕ × List ℕ) → List ℕ
 projected-words (ok p) = 0 ∷ p .0 ∷ p .1
 projected-words (err r) = r .number ∷ r .function ∷ r .second ∷ r .detail
 
-unfoldable pub joined : List (List ℕ) → List ℕ
-joined [] = []
-joined (l ∷ ls) = l ++ joined ls
+-- lines, each with its count before it
+unfoldable pub ruled : List (List ℕ) → List ℕ
+ruled [] = []
+ruled (l ∷ ls) = length l ∷ (l ++ ruled ls)
 
 unfoldable pub answer-to : Question → List ℕ
 answer-to (typing locals expected e) = typed-words (infer-expr (record { function = 7; locals = locals; fields = []; self-type = ResolvedType.named 0 }) e expected 3)
 answer-to (resolving schema params e) = counted-words (substitute-type schema params e)
 answer-to (projecting row schema) = projected-words (project-call row schema)
-answer-to (printing image) = joined (projone image)
+answer-to (printing image) = ruled (projone image)
 
 -- Int and UInt of a number's 64 bits
 abbrev int : ℕ → Expr
@@ -97,6 +99,10 @@ table =
     ∷ row (under (ResolvedType.sub 1 1) (int (minus 1))) (0 ∷ 16 ∷ 1 ∷ 1 ∷ 0 ∷ 4294967295 ∷ 4294967295 ∷ [])
     ∷ row (under (ResolvedType.sub 1 1) (int 0)) (0 ∷ 16 ∷ 1 ∷ 1 ∷ 0 ∷ 0 ∷ 0 ∷ [])
     ∷ row (under (ResolvedType.sub 1 1) (int 1)) (20 ∷ 7 ∷ NONE ∷ 0 ∷ 16 ∷ 1 ∷ 1 ∷ 8 ∷ [])
+    ∷ row (under I8 (uint 127)) (0 ∷ 5 ∷ 1 ∷ 127 ∷ 0 ∷ [])
+    ∷ row (under I8 (uint 128)) (20 ∷ 7 ∷ NONE ∷ 1 ∷ 5 ∷ 4 ∷ [])
+    ∷ row (under (ResolvedType.sub 1 1) (uint 0)) (0 ∷ 16 ∷ 1 ∷ 1 ∷ 1 ∷ 0 ∷ 0 ∷ [])
+    ∷ row (under (ResolvedType.sub 1 1) (uint 1)) (20 ∷ 7 ∷ NONE ∷ 1 ∷ 16 ∷ 1 ∷ 1 ∷ 4 ∷ [])
     ∷ row (under (ResolvedType.sub 0 64) (uint (2 ^ 64 - 1))) (0 ∷ 16 ∷ 0 ∷ 64 ∷ 1 ∷ 4294967295 ∷ 4294967295 ∷ [])
     ∷ row (under (ResolvedType.sub 1 64) (uint 9223372036854775807)) (0 ∷ 16 ∷ 1 ∷ 64 ∷ 1 ∷ 4294967295 ∷ 2147483647 ∷ [])
     ∷ row (under (ResolvedType.sub 1 64) (uint 9223372036854775808)) (20 ∷ 7 ∷ NONE ∷ 1 ∷ 16 ∷ 1 ∷ 64 ∷ 4 ∷ [])
@@ -105,7 +111,7 @@ table =
     ∷ row (typing [] none (Expr.unary 0 (uint 1))) (21 ∷ 7 ∷ NONE ∷ 10 ∷ 4 ∷ [])
     ∷ row (typing (record { name = 3; ty = U8 } ∷ []) none (Expr.binary 4 (Expr.bool 1) (Expr.local 3))) (20 ∷ 7 ∷ NONE ∷ 6 ∷ 1 ∷ 0 ∷ [])
     ∷ row (resolving optional-alias (record { name = 1; ty = STRING } ∷ []) (TypeExpr.two 68 (TypeExpr.generic 0 (TypeExpr.named 1)) (TypeExpr.named 1))) (0 ∷ 6 ∷ 68 ∷ 64 ∷ 32 ∷ 32 ∷ [])
-    ∷ row (printing whole-image) (0 ∷ NONE ∷ NONE ∷ 48 ∷ 1 ∷ 1 ∷ 0 ∷ 0 ∷ 1 ∷ 1 ∷ 1 ∷ 2 ∷ 1 ∷ 1 ∷ 0 ∷ 5 ∷ 0 ∷ [])
+    ∷ row (printing whole-image) (5 ∷ 0 ∷ NONE ∷ NONE ∷ 48 ∷ 1 ∷ 1 ∷ 1 ∷ 1 ∷ 0 ∷ 1 ∷ 0 ∷ 1 ∷ 1 ∷ 1 ∷ 1 ∷ 1 ∷ 1 ∷ 1 ∷ 2 ∷ 1 ∷ 1 ∷ 1 ∷ 1 ∷ 1 ∷ 0 ∷ 1 ∷ 5 ∷ 1 ∷ 0 ∷ [])
     ∷ []
 
 -- names A (0), T (1), and B (2), which is an alias to u16 and a definition too; A<T> = A<T> is definition 0
@@ -130,13 +136,35 @@ implements asks has = record {
       ∷ TypeDef.implementation (record { trait-id = 0; trait-name = 0; target-type = ResolvedType.named 1; type-args = []; functions = has }) ∷ [];
 }
 
--- an alias to a primitive before a definition; outer parameters hidden from a target; a cycle; u8 and sub-byte u8; 9 before 10, 10 before 11; trait order
+-- K<T> = bool is definition 0: K nested n deep takes 2 n + 1 visits
+abbrev drops : CompiledSchema
+drops = record {
+  names = record { text = 75 ∷ []; definition = 0; alias = none } ∷ record { text = 84 ∷ []; definition = NONE; alias = none } ∷ [];
+  definitions = TypeDef.generic-alias (record { type-params = 1 ∷ []; target-type = TypeExpr.leaf BOOL }) ∷ [];
+}
+
+unfoldable pub nested : ℕ → TypeExpr
+nested zero = TypeExpr.leaf BOOL
+nested (suc n) = TypeExpr.generic 0 (nested n)
+
+-- a run of n + 1 words
+unfoldable pub optionals : ℕ → TypeExpr
+optionals zero = TypeExpr.leaf BOOL
+optionals (suc n) = TypeExpr.one 64 (optionals n)
+
+-- 1,024 visits and 64 words pass, one more does not; an alias to a primitive before a definition; outer parameters hidden from a target; a cycle; u8 and sub-byte u8; of equal names the last; left's hint before right's; 9 before 10, 10 before 11; trait order
 abbrev pub guards : List Row
 guards =
-    row (resolving cyclic-alias [] (TypeExpr.named 2)) (0 ∷ 1 ∷ 2 ∷ [])
+    row (resolving drops [] (TypeExpr.one 64 (nested 511))) (0 ∷ 1024 ∷ 64 ∷ 0 ∷ [])
+    ∷ row (resolving drops [] (nested 512)) (8 ∷ [])
+    ∷ row (resolving drops [] (TypeExpr.generic 0 (optionals 63))) (0 ∷ 66 ∷ 0 ∷ [])
+    ∷ row (resolving drops [] (TypeExpr.generic 0 (optionals 64))) (8 ∷ [])
+    ∷ row (resolving cyclic-alias [] (TypeExpr.named 2)) (0 ∷ 1 ∷ 2 ∷ [])
     ∷ row (resolving optional-alias (record { name = 1; ty = STRING } ∷ []) (TypeExpr.generic 0 (TypeExpr.leaf I64))) (0 ∷ 4 ∷ 64 ∷ 8 ∷ [])
     ∷ row (resolving cyclic-alias [] (TypeExpr.generic 0 (TypeExpr.leaf I64))) (8 ∷ [])
     ∷ row (typing (record { name = 3; ty = ResolvedType.sub 0 8 } ∷ []) (some U8) (Expr.local 3)) (20 ∷ 7 ∷ NONE ∷ 3 ∷ 1 ∷ 16 ∷ 0 ∷ 8 ∷ [])
+    ∷ row (typing (record { name = 3; ty = BOOL } ∷ record { name = 3; ty = U8 } ∷ []) none (Expr.local 3)) (0 ∷ 1 ∷ 5 ∷ 3 ∷ [])
+    ∷ row (typing (record { name = 3; ty = BOOL } ∷ record { name = 4; ty = U8 } ∷ []) none (Expr.binary 4 (Expr.local 3) (Expr.local 4))) (20 ∷ 7 ∷ NONE ∷ 6 ∷ 0 ∷ 1 ∷ [])
     ∷ row (projecting 2 (implements (asked 4 ∷ []) (empty 5 ∷ empty 4 ∷ empty 4 ∷ []))) (9 ∷ 4 ∷ NONE ∷ [])
     ∷ row (projecting 2 (implements (asked 4 ∷ []) (empty 5 ∷ []))) (10 ∷ 5 ∷ NONE ∷ [])
     ∷ row (projecting 2 (implements (asked 4 ∷ asked 5 ∷ []) (empty 5 ∷ empty 4 ∷ []))) (0 ∷ 0 ∷ 2 ∷ 4 ∷ 0 ∷ 0 ∷ 0 ∷ 5 ∷ 0 ∷ 0 ∷ 0 ∷ [])

@@ -59,7 +59,7 @@ definition-width = 8
 unfoldable pub whole-rows : ℕ → ℕ → ℕ → ℕ → Bool
 whole-rows start stop width most = leb start stop && eqb ((stop - start) % width) 0 && leb ((stop - start) / width) most
 
--- format 1, the image's length, adjoining sections of whole rows and not too many
+-- format 1, the image's length, adjoining sections of whole rows and not too many; the pool's words have no bound but the image's length
 unfoldable pub good-trailer : ℕ → Trailer → Bool
 good-trailer size t =
     eqb (t .format) 1 && eqb (t .size) size

@@ -1,6 +1,6 @@
 -- The codes of types, expressions, statements and definitions, each of one kind.
 use Prim.Native.Nat.{ℕ}
-use mathlib.Core.Bool.{Bool, true, false, cond}
+use mathlib.Core.Bool.{cond}
 use lib.Dec.{ltb, eqb}
 use Rattle.rules.specs.Words.{within}
 use Rattle.rules.specs.declared.kinds.TypeKind.{TypeKind}

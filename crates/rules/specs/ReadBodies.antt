@@ -1,6 +1,6 @@
 -- Expressions, statements and bodies in the pool, with their bounds.
 use Prim.Native.Nat.{ℕ, zero, suc, _+_}
-use mathlib.Core.Bool.{Bool, true, false, cond}
+use mathlib.Core.Bool.{cond}
 use mathlib.Core.List.{List, [], _∷_}
 use lib.Dec.{leb, eqb}
 use Rattle.rules.specs.Syntax.{Expr, Exprs, Statement, FnBody}

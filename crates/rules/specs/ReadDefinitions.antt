@@ -1,10 +1,10 @@
 -- The bodies of definitions in the pool: messages, generic aliases, traits, implementations.
 use Prim.Native.Nat.{ℕ}
-use mathlib.Core.Bool.{Bool, true, false, cond}
-use mathlib.Core.List.{List, [], _∷_, map}
+use mathlib.Core.Bool.{cond}
+use mathlib.Core.List.{map}
 use lib.Dec.{eqb}
 use Rattle.rules.specs.Words.{all-different}
-use Rattle.rules.specs.Syntax.{Param, ImplFnDef, TraitReturn, TraitFnDef, MessageDef, GenericAliasDef, TraitDef, ImplDef}
+use Rattle.rules.specs.Syntax.{ImplFnDef, TraitReturn, TraitFnDef, MessageDef, GenericAliasDef, TraitDef, ImplDef}
 use Rattle.rules.specs.Reader.{Reader, _>>=_, give, rule, word, below, many, maybe}
 use Rattle.rules.specs.ReadTypes.{name, resolved-type, type-expr, param}
 use Rattle.rules.specs.ReadBodies.{body}

@@ -16,12 +16,12 @@ use Rattle.texts.specs.Rows.{row-text, new-row, rows-differ, first-from,
 use Rattle.texts.specs.Find.{first-below}
 
 -- the i-th name's text is the i-th of these
-abbrev Told : (ℕ → List ℕ) → List Name → Type 0
+abbrev pub Told : (ℕ → List ℕ) → List Name → Type 0
 Told f ns = (i : ℕ) (n : Name) → getElem? ns i ≡ some n → n .text ≡ f i
 
 -- the i-th name's text is that of row i
 abbrev pub InRows : List ℕ → ℕ → List Name → Type 0
-InRows image names-start ns = (i : ℕ) (n : Name) → getElem? ns i ≡ some n → n .text ≡ row-text image names-start i
+InRows image names-start ns = Told (row-text image names-start) ns
 
 -- ---- all texts differ
 

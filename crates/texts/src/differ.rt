@@ -10,28 +10,31 @@ ghost use Rattle.rules.specs.Words.{same};
 ghost use Rattle.texts.specs.Rows.{row-text, new-row, rows-differ};
 ghost use Rattle.texts.specs.Hash.{Hashes};
 
-// Whether rows j and i have one text.
-fn clash(image: &[u8], names_start: usize, hs: &[u32], i: usize, j: usize) -> bool
-    requires { ⌜ («names_start» ≤ 65536) × (i < 1024) × (j < i) × (i < length (now hs)) × Hashes (now image) «names_start» (i + 1) (now hs) ⌝ }
-    ensures { λ r. ⌜ r ≡ same (row-text (now (image .entry)) «names_start» j) (row-text (now (image .entry)) «names_start» i) ⌝ }
+// Whether a name has the text of an earlier one.
+fn clash(image: &[u8], names_start: usize, hs: &[u32], name: NameId, earlier: NameId) -> bool
+    requires { ⌜ («names_start» ≤ 65536) × (earlier .0 < name .0) × (name .0 < length (now hs)) × Hashes (now image) «names_start» (name .0 + 1) (now hs) ⌝ }
+    ensures { λ r. ⌜ r ≡ same (row-text (now (image .entry)) «names_start» (earlier .0)) (row-text (now (image .entry)) «names_start» (name .0)) ⌝ }
 {
+    let i = name.0 as usize;
+    let j = earlier.0 as usize;
     if hs[j] != hs[i] {
         return false;
     }
     same_text(
-        text_of(image, names_start, NameId(j as u32)),
-        text_of(image, names_start, NameId(i as u32)),
+        text_of(image, names_start, earlier),
+        text_of(image, names_start, name),
     )
 }
 
-// Whether no earlier row has the text of row i.
-fn is_new(image: &[u8], names_start: usize, hs: &[u32], i: usize) -> bool
-    requires { ⌜ («names_start» ≤ 65536) × (i < 1024) × (i < length (now hs)) × Hashes (now image) «names_start» (i + 1) (now hs) ⌝ }
-    ensures { λ r. ⌜ r ≡ new-row (now (image .entry)) «names_start» i ⌝ }
+// Whether no earlier name has the text of this one.
+fn is_new(image: &[u8], names_start: usize, hs: &[u32], name: NameId) -> bool
+    requires { ⌜ («names_start» ≤ 65536) × (name .0 < length (now hs)) × Hashes (now image) «names_start» (name .0 + 1) (now hs) ⌝ }
+    ensures { λ r. ⌜ r ≡ new-row (now (image .entry)) «names_start» (name .0) ⌝ }
 {
+    let i = name.0 as usize;
     let mut j = 0;
     while j < i {
-        if clash(image, names_start, hs, i, j) {
+        if clash(image, names_start, hs, name, NameId(j as u32)) {
             return false;
         }
         j += 1;
@@ -45,7 +48,7 @@ fn all_new(image: &[u8], names_start: usize, names: usize, hs: &[u32]) -> bool
 {
     let mut i = 0;
     while i < names {
-        if !is_new(image, names_start, hs, i) {
+        if !is_new(image, names_start, hs, NameId(i as u32)) {
             return false;
         }
         i += 1;

@@ -10,12 +10,10 @@ use borrow.Author.Tests.{ne-eqb}
 use Rattle.rules.specs.Words.{within}
 use Rattle.rules.specs.Syntax.{ResolvedType, run}
 use Rattle.rules.specs.Types.{is-numeric, is-signed-numeric, is-equality-type, is-float}
-use Rattle.rules.specs.Kinds.{type-kind}
-use Rattle.rules.specs.declared.kinds.TypeKind.{TypeKind}
 use Rattle.laws.specs.Good.{Good}
 use Rattle.held.specs.declared.types.HeldType.{HeldType}
 use Rattle.held.specs.Holds.{Holds}
-use Rattle.held.proofs.Codes.{in-within, off-within, primitive-in, semantic-in}
+use Rattle.kinds.proofs.Codes.{in-within, off-within, primitive-in, semantic-in}
 use Rattle.types.proofs.Heads.{word, word-of, held-word, Off, one-off, two-off, plain-not-sub, same-plain}
 
 unfoldable pub numeric-code : ℕ → Bool

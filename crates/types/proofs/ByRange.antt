@@ -1,8 +1,8 @@
 -- A type's range by the first words of its run. Assumes nothing.
 use Prim.Native.Nat.{ℕ, zero, suc, _≤_, _<_}
 use native.Mathlib.Omega.{arith}
-use mathlib.Core.Path.{_≡_, refl, sym, ap, _∙_}
-use mathlib.Core.Bool.{Bool, cond}
+use mathlib.Core.Path.{_≡_, refl, sym, _∙_}
+use mathlib.Core.Bool.{cond}
 use lib.ListN.{length, getD, List·getD-eq-default}
 use lib.Dec.{T, ltb, eqb, ltb→lt}
 use borrow.Author.Tests.{ne-eqb}

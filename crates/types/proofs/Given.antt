@@ -1,6 +1,6 @@
 -- A literal's type under an expected type, and with none. Assumes nothing.
 use Prim.Native.Nat.{ℕ, _<_}
-use mathlib.Core.Path.{_≡_, refl, sym, _∙_, subst}
+use mathlib.Core.Path.{_≡_, refl, sym, _∙_}
 use mathlib.Core.Bool.{Bool, true, false, false≢true}
 use mathlib.Core.List.{[], _∷_}
 use mathlib.Core.Option.{Option, none, some}
@@ -9,8 +9,8 @@ use Rattle.rules.specs.Fits.{literal-fits, literal-own}
 use Rattle.held.specs.declared.types.HeldType.{HeldType}
 use Rattle.held.specs.declared.types.MaybeType.{MaybeType}
 use Rattle.held.specs.Runs.{Runs}
-use Rattle.held.specs.Holds.{Holds, MaybeHolds, Each}
-use Rattle.held.proofs.Codes.{primitive-in}
+use Rattle.held.specs.Holds.{MaybeHolds, Each}
+use Rattle.kinds.proofs.Codes.{primitive-in}
 use Rattle.held.proofs.Trees.{plain-holds}
 use Rattle.types.specs.Literals.{literal-type}
 

@@ -1,23 +1,22 @@
 -- The first word of a held type's run: its code, and what the code tells of the type. Assumes nothing.
-use Prim.Native.Nat.{ℕ, _≤_, _<_}
-use native.Mathlib.Omega.{arith}
+use Prim.Native.Nat.{ℕ, _≤_}
 use mathlib.Core.Path.{_≡_, refl, sym, ap, _∙_}
 use mathlib.Core.Bool.{Bool, true, false}
 use mathlib.Core.List.{List, [], _∷_}
 use lib.ListN.{getD}
 use lib.Dec.{ltb, eqb}
-use borrow.Author.Tests.{eq-eqb, ne-eqb, eqb-true, eqb-false, ltb-false, ltb-true}
-use Rattle.rules.specs.Words.{same}
+use borrow.Author.Tests.{eqb-true, eqb-false, ltb-false, ltb-true}
 use Rattle.rules.specs.Syntax.{ResolvedType, run}
 use Rattle.rules.specs.Types.{same-type}
 use Rattle.rules.specs.Kinds.{type-kind}
 use Rattle.rules.specs.declared.kinds.TypeKind.{TypeKind}
+use Rattle.laws.specs.Clash.{clash}
 use Rattle.laws.specs.Good.{Good}
 use Rattle.laws.specs.Same.{same-false, same-type-self}
 use Rattle.held.specs.declared.types.HeldType.{HeldType}
 use Rattle.held.specs.Runs.{held-run}
 use Rattle.held.specs.Holds.{Holds}
-use Rattle.held.proofs.Codes.{sub-at, primitive-in}
+use Rattle.kinds.proofs.Codes.{sub-at, primitive-in}
 
 -- the i-th word of a held type, and of a type
 abbrev pub word : HeldType → ℕ → ℕ
@@ -42,24 +41,24 @@ abbrev pub Off : ℕ → Type 0
 Off c = (14 ≤ c) × (c ≡ 16 → ⊥)
 
 pub one-off : {c : ℕ} → type-kind c ≡ TypeKind.One → Off c
-one-off k = head-off TypeKind.One k (λ e. let z : _≡_ {A = ℕ} 0 1 = cc in omega arith) (λ e. let z : _≡_ {A = ℕ} 0 1 = cc in omega arith)
+one-off k = head-off TypeKind.One k (λ e. clash (cc)) (λ e. clash (cc))
 
 pub two-off : {c : ℕ} → type-kind c ≡ TypeKind.Two → Off c
-two-off k = head-off TypeKind.Two k (λ e. let z : _≡_ {A = ℕ} 0 1 = cc in omega arith) (λ e. let z : _≡_ {A = ℕ} 0 1 = cc in omega arith)
+two-off k = head-off TypeKind.Two k (λ e. clash (cc)) (λ e. clash (cc))
 
 pub plain-not-sub : {c : ℕ} → type-kind c ≡ TypeKind.Plain → c ≡ 16 → ⊥
-plain-not-sub k e = let q : type-kind 16 ≡ TypeKind.Sub = unfold type-kind in refl in let r : type-kind 16 ≡ TypeKind.Plain = sym (ap type-kind e) ∙ k in let z : _≡_ {A = ℕ} 0 1 = cc in omega arith
+plain-not-sub k e = let q : type-kind 16 ≡ TypeKind.Sub = unfold type-kind in refl in let r : type-kind 16 ≡ TypeKind.Plain = sym (ap type-kind e) ∙ k in clash (cc)
 
 -- a type whose code is plain is that leaf
 pub plain-head : (names : ℕ) (t : ResolvedType) → Good names t → type-kind (word-of t 0) ≡ TypeKind.Plain → t ≡ ResolvedType.plain (word-of t 0)
 unfolding run
 plain-head names (ResolvedType.plain c) g k = refl
-plain-head names (ResolvedType.sub s n) g k = absurd (let q : type-kind 16 ≡ TypeKind.Sub = sub-at refl in let z : _≡_ {A = ℕ} 0 1 = cc in omega arith)
-plain-head names (ResolvedType.bits ns) g k = absurd (let q : type-kind 80 ≡ TypeKind.Bits = unfold type-kind in refl in let z : _≡_ {A = ℕ} 0 1 = cc in omega arith)
-plain-head names (ResolvedType.named n) g k = absurd (let q : type-kind 48 ≡ TypeKind.Named = unfold type-kind in refl in let z : _≡_ {A = ℕ} 0 1 = cc in omega arith)
-plain-head names (ResolvedType.one c t) g k = absurd (let q : type-kind c ≡ TypeKind.One = g .0 in let z : _≡_ {A = ℕ} 0 1 = cc in omega arith)
-plain-head names (ResolvedType.fixed low high t) g k = absurd (let q : type-kind 66 ≡ TypeKind.Fixed = unfold type-kind in refl in let z : _≡_ {A = ℕ} 0 1 = cc in omega arith)
-plain-head names (ResolvedType.two c t u) g k = absurd (let q : type-kind c ≡ TypeKind.Two = g .0 in let z : _≡_ {A = ℕ} 0 1 = cc in omega arith)
+plain-head names (ResolvedType.sub s n) g k = let q : type-kind 16 ≡ TypeKind.Sub = sub-at refl in clash (cc)
+plain-head names (ResolvedType.bits ns) g k = let q : type-kind 80 ≡ TypeKind.Bits = unfold type-kind in refl in clash (cc)
+plain-head names (ResolvedType.named n) g k = let q : type-kind 48 ≡ TypeKind.Named = unfold type-kind in refl in clash (cc)
+plain-head names (ResolvedType.one c t) g k = let q : type-kind c ≡ TypeKind.One = g .0 in clash (cc)
+plain-head names (ResolvedType.fixed low high t) g k = let q : type-kind 66 ≡ TypeKind.Fixed = unfold type-kind in refl in clash (cc)
+plain-head names (ResolvedType.two c t u) g k = let q : type-kind c ≡ TypeKind.Two = g .0 in clash (cc)
 
 -- equality with a leaf is equality of the codes
 pub same-plain : (names : ℕ) (t : ResolvedType) (c : ℕ) → Good names t → type-kind c ≡ TypeKind.Plain → same-type t (ResolvedType.plain c) ≡ eqb (word-of t 0) c

@@ -9,3 +9,4 @@ pub mod Widths
 pub mod ByRange
 pub mod Given
 pub mod Edges
+pub mod Inferred

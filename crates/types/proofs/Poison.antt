@@ -1,22 +1,23 @@
 -- Over the run of a type the walk says what the rules say of the type. Assumes nothing.
-use Prim.Native.Nat.{ℕ, suc, _+_, _<_}
+use Prim.Native.Nat.{ℕ, _+_}
 use native.Mathlib.Omega.{arith}
 use native.Mathlib.Numerals.{add-two}
 use mathlib.Core.Path.{_≡_, refl, sym, ap, _∙_}
 use mathlib.Core.Bool.{Bool, true, false, _||_, or-assoc}
 use mathlib.Core.List.{List, [], _∷_, _++_, append-assoc, append-nil}
-use lib.ListN.{length, drop, getD}
+use lib.ListN.{length, getD}
 use lib.Seq.{drop-append-seam}
 use borrow.Author.Tests.{ne-eqb}
 use Rattle.rules.specs.Syntax.{ResolvedType, run}
 use Rattle.rules.specs.Types.{contains-poison}
 use Rattle.rules.specs.Kinds.{type-kind}
 use Rattle.rules.specs.declared.kinds.TypeKind.{TypeKind}
+use Rattle.laws.specs.Clash.{clash}
 use Rattle.laws.specs.Good.{Good}
 use Rattle.held.specs.declared.types.HeldType.{HeldType}
 use Rattle.held.specs.Runs.{held-run}
 use Rattle.held.specs.Holds.{Holds}
-use Rattle.held.proofs.Codes.{named-at}
+use Rattle.kinds.proofs.Codes.{named-at}
 use Rattle.types.specs.Headers.{header-of}
 use Rattle.types.proofs.Walk.{front-poison, front-header, behind, poison-in, poisoned, poisoned-step}
 
@@ -29,15 +30,15 @@ over c ws k e n h =
 
 pub poison-tree : (names : ℕ) (t : ResolvedType) (rest : List ℕ) → Good names t → poisoned (run t ++ rest) ≡ (contains-poison t || poisoned rest)
 unfolding run contains-poison front-poison behind front-header type-kind
-poison-tree names (ResolvedType.plain c) rest g = over c rest TypeKind.Plain g (λ e. let z : _≡_ {A = ℕ} 0 1 = cc in omega arith) refl
+poison-tree names (ResolvedType.plain c) rest g = over c rest TypeKind.Plain g (λ e. clash (cc)) refl
 poison-tree names (ResolvedType.sub s n) rest g = poisoned-step (16 ∷ s ∷ n ∷ rest) (omega arith)
 poison-tree names (ResolvedType.bits ns) rest g = poisoned-step (80 ∷ length ns ∷ (ns ++ rest)) (omega arith) ∙ rw (add-two (length ns), drop-append-seam ns rest)
 poison-tree names (ResolvedType.named n) rest g = poisoned-step (48 ∷ n ∷ rest) (omega arith)
 poison-tree names (ResolvedType.one c t) rest g =
-    over c (run t ++ rest) TypeKind.One (g .0) (λ e. let z : _≡_ {A = ℕ} 0 1 = cc in omega arith) refl ∙ poison-tree names t rest (g .1)
+    over c (run t ++ rest) TypeKind.One (g .0) (λ e. clash (cc)) refl ∙ poison-tree names t rest (g .1)
 poison-tree names (ResolvedType.fixed low high t) rest g = poisoned-step (66 ∷ low ∷ high ∷ (run t ++ rest)) (omega arith) ∙ poison-tree names t rest g
 poison-tree names (ResolvedType.two c t u) rest g =
-    over c ((run t ++ run u) ++ rest) TypeKind.Two (g .0) (λ e. let z : _≡_ {A = ℕ} 0 1 = cc in omega arith) refl
+    over c ((run t ++ run u) ++ rest) TypeKind.Two (g .0) (λ e. clash (cc)) refl
     ∙ rw (append-assoc (run t) (run u) rest, poison-tree names t (run u ++ rest) (g .1), poison-tree names u rest (g .2))
     (sym (or-assoc (contains-poison t) (contains-poison u) (poisoned rest)))
 

@@ -1,17 +1,19 @@
--- Void as a return means none. Assumes nothing.
+-- Void as a return means none; equality of returns. Assumes nothing.
 use Prim.Native.Nat.{ℕ}
 use native.Mathlib.Omega.{arith}
 use mathlib.Core.Path.{_≡_, refl, sym, ap, _∙_, subst}
-use mathlib.Core.Bool.{Bool, true, false, false≢true}
+use mathlib.Core.Bool.{Bool, true, false, not, false≢true}
 use mathlib.Core.Option.{Option, none, some}
 use lib.Dec.{eqb}
 use borrow.Author.Tests.{eq-eqb, ne-eqb}
 use Rattle.rules.specs.Syntax.{ResolvedType}
-use Rattle.rules.specs.Types.{VOID, same-type, normalize-return}
+use Rattle.rules.specs.Words.{same}
+use Rattle.rules.specs.Types.{VOID, same-type, normalize-return, return-words, same-return}
 use Rattle.held.specs.declared.types.MaybeType.{MaybeType}
 use Rattle.held.specs.Holds.{Holds, MaybeHolds}
-use Rattle.held.proofs.Codes.{primitive-in}
-use Rattle.types.proofs.Heads.{word, word-of, held-word, same-plain}
+use Rattle.kinds.proofs.Codes.{primitive-in}
+use Rattle.types.specs.Tests.{Same}
+use Rattle.types.proofs.Heads.{word, held-word, same-plain}
 
 -- a test that a held type is Void, by its code
 void-code : {names : ℕ} (m : MaybeType) (t : ResolvedType) → Holds names (m .ty) t → same-type t VOID ≡ eqb (word (m .ty) 0) 13
@@ -45,3 +47,20 @@ module _ (names : ℕ) (m : MaybeType) where
   unfolding normalize-return
   no-return none h s = h
   no-return (some t) h s = absurd (false≢true (sym s ∙ h .0))
+
+-- two returns, by what there is
+module _ (i j : ℕ) (a b : MaybeType) where
+  pub both-return : {r : Bool} (t u : Option ResolvedType) → MaybeHolds i a t → MaybeHolds j b u → a .some ≡ true → b .some ≡ true → Same (a .ty) (b .ty) r → r ≡ same-return t u
+  both-return none u h k s q e = absurd (false≢true (sym h ∙ s))
+  both-return (some t) none h k s q e = absurd (false≢true (sym k ∙ q))
+  both-return (some t) (some u) h k s q e = e .types i t (h .1) j u (k .1) ∙ (unfold same-type same-return return-words same in refl)
+
+  pub first-return : (t u : Option ResolvedType) → MaybeHolds i a t → MaybeHolds j b u → a .some ≡ true → b .some ≡ false → false ≡ same-return t u
+  first-return none u h k s q = absurd (false≢true (sym h ∙ s))
+  first-return (some t) none h k s q = unfold same-return return-words same in refl
+  first-return (some t) (some u) h k s q = absurd (false≢true (sym q ∙ k .0))
+
+  pub second-return : (t u : Option ResolvedType) → MaybeHolds i a t → MaybeHolds j b u → a .some ≡ false → not (b .some) ≡ same-return t u
+  second-return none none h k s = ap not k ∙ (unfold same-return return-words same in refl)
+  second-return none (some u) h k s = ap not (k .0) ∙ (unfold same-return return-words same in refl)
+  second-return (some t) u h k s = absurd (false≢true (sym s ∙ h .0))

@@ -30,34 +30,23 @@ poison-in (suc most) (w ∷ ws) = front-poison (w ∷ ws) || poison-in most (beh
 unfoldable pub poisoned : List ℕ → Bool
 poisoned ws = poison-in (length ws) ws
 
-pub header-positive : (k : TypeKind) (next : ℕ) → 1 ≤ header-of k next
-header-positive TypeKind.Plain next = omega arith
-header-positive TypeKind.Sub next = omega arith
-header-positive TypeKind.Bits next = omega arith
-header-positive TypeKind.Named next = omega arith
-header-positive TypeKind.Qualified next = omega arith
-header-positive TypeKind.Generic next = omega arith
-header-positive TypeKind.One next = omega arith
-header-positive TypeKind.Fixed next = omega arith
-header-positive TypeKind.Two next = omega arith
-header-positive TypeKind.Unknown next = omega arith
-
-pub header-most : (k : TypeKind) (next : ℕ) → header-of k next ≤ next + 3
-header-most TypeKind.Plain next = omega arith
-header-most TypeKind.Sub next = omega arith
-header-most TypeKind.Bits next = omega arith
-header-most TypeKind.Named next = omega arith
-header-most TypeKind.Qualified next = omega arith
-header-most TypeKind.Generic next = omega arith
-header-most TypeKind.One next = omega arith
-header-most TypeKind.Fixed next = omega arith
-header-most TypeKind.Two next = omega arith
-header-most TypeKind.Unknown next = omega arith
+-- a header has a word, and no more than the count behind its code and three
+pub header-size : (k : TypeKind) (next : ℕ) → (1 ≤ header-of k next) × (header-of k next ≤ next + 3)
+header-size TypeKind.Plain next = (omega arith, omega arith)
+header-size TypeKind.Sub next = (omega arith, omega arith)
+header-size TypeKind.Bits next = (omega arith, omega arith)
+header-size TypeKind.Named next = (omega arith, omega arith)
+header-size TypeKind.Qualified next = (omega arith, omega arith)
+header-size TypeKind.Generic next = (omega arith, omega arith)
+header-size TypeKind.One next = (omega arith, omega arith)
+header-size TypeKind.Fixed next = (omega arith, omega arith)
+header-size TypeKind.Two next = (omega arith, omega arith)
+header-size TypeKind.Unknown next = (omega arith, omega arith)
 
 behind-shorter : (w : ℕ) (ws : List ℕ) → length (behind (w ∷ ws)) ≤ length ws
 unfolding behind front-header
 behind-shorter w ws =
-    omega (arith, length-drop (front-header (w ∷ ws)) (w ∷ ws), header-positive (type-kind (getD (w ∷ ws) 0 0)) (getD (w ∷ ws) 1 0))
+    omega (arith, length-drop (front-header (w ∷ ws)) (w ∷ ws), header-size (type-kind (getD (w ∷ ws) 0 0)) (getD (w ∷ ws) 1 0) .0)
 
 -- as many nodes as words are enough
 enough : (f g : ℕ) (ws : List ℕ) → length ws ≤ f → length ws ≤ g → poison-in f ws ≡ poison-in g ws

@@ -2,15 +2,15 @@
 use Prim.Native.Nat.{ℕ, _-_, _/_, _*_, _^_, _≤_, _<_}
 use native.Mathlib.Nat.{div-eq-of-lt, div-lt-iff-lt-mul, lt-of-lt-of-le}
 use native.Mathlib.Omega.{arith}
-use mathlib.Core.Path.{_≡_, refl, sym, ap, _∙_}
+use mathlib.Core.Path.{_≡_, refl, sym, _∙_}
 use mathlib.Core.Bool.{Bool, true, false}
 use lib.Dec.{ltb, eqb}
 use lib.Pow.{pow-pos, pow-mono}
-use lib.IntN.{ℤ, pos, negsuc}
+use lib.IntN.{ℤ, pos}
 use lib.Signed.{mag}
 use borrow.Author.Tests.{lt-ltb, le-ltb, eq-eqb, ne-eqb, ltb-true, ltb-false}
 use Rattle.rules.specs.Fits.{takes, int-of}
-use Rattle.laws.specs.Widths.{takes-signed, takes-unsigned, takes-unsigned-neg}
+use Rattle.laws.specs.Widths.{takes-signed, takes-unsigned, mag-int-of, takes-unsigned-int}
 use Rattle.types.specs.declared.literals.Range.{Range}
 use Rattle.types.specs.Ranges.{range}
 
@@ -27,13 +27,12 @@ shift-zero x k = go (ltb x (2 ^ k)) refl
 pub all-below : (x k : ℕ) → x < 2 ^ 64 → 64 ≤ k → ltb x (2 ^ k) ≡ true
 all-below x k h l = lt-ltb x (2 ^ k) (lt-of-lt-of-le h (pow-mono l))
 
-pub int-positive : (n : ℕ) → n < 2 ^ 63 → int-of n ≡ pos n
-unfolding int-of
-int-positive n h = rw (lt-ltb n (2 ^ 63) h)
+-- the magnitude of a two's complement
+pub positive : (n : ℕ) → n < 2 ^ 63 → n ≡ mag (int-of n)
+positive n h = sym (mag-int-of n ∙ rw (lt-ltb n (2 ^ 63) h))
 
-pub int-negative : (n : ℕ) → 2 ^ 63 ≤ n → int-of n ≡ negsuc (2 ^ 64 - 1 - n)
-unfolding int-of
-int-negative n h = rw (le-ltb n (2 ^ 63) h)
+pub negative : (n : ℕ) → 2 ^ 63 ≤ n → 2 ^ 64 - 1 - n ≡ mag (int-of n)
+negative n h = sym (mag-int-of n ∙ rw (le-ltb n (2 ^ 63) h))
 
 -- at every width
 pub signed-fit : (z : ℤ) {q : Range} {n m k : ℕ} {b : Bool} → q ≡ Range.Signed n → m ≡ mag z → k ≡ n - 1 → b ≡ ltb m (2 ^ k) → b ≡ takes (range q) z
@@ -43,10 +42,10 @@ pub unsigned-fit : (x : ℕ) {q : Range} {n : ℕ} {b : Bool} → q ≡ Range.Un
 unsigned-fit x {n = n} eq eb = rw (eq, takes-unsigned n x) eb
 
 pub unsigned-positive : (x : ℕ) {q : Range} {n : ℕ} {b : Bool} → q ≡ Range.Unsigned n → x < 2 ^ 63 → b ≡ ltb x (2 ^ n) → b ≡ takes (range q) (int-of x)
-unsigned-positive x eq h eb = rw (int-positive x h) (unsigned-fit x eq eb)
+unsigned-positive x {n = n} eq h eb = rw (eq, takes-unsigned-int n x, lt-ltb x (2 ^ 63) h) eb
 
 pub unsigned-negative : (x : ℕ) {q : Range} {n : ℕ} → q ≡ Range.Unsigned n → 2 ^ 63 ≤ x → false ≡ takes (range q) (int-of x)
-unsigned-negative x {n = n} eq h = rw (int-negative x h, eq, takes-unsigned-neg n (2 ^ 64 - 1 - x))
+unsigned-negative x {n = n} eq h = rw (eq, takes-unsigned-int n x, le-ltb x (2 ^ 63) h)
 
 pub any-fit : (z : ℤ) {q : Range} → q ≡ Range.Any → true ≡ takes (range q) z
 unfolding takes

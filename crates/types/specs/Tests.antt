@@ -1,5 +1,4 @@
 -- Equality of held types.
-use Prim.Native.Nat.{ℕ}
 use mathlib.Core.Path.{_≡_}
 use mathlib.Core.Bool.{Bool}
 use Rattle.rules.specs.Words.{same}

@@ -1,21 +1,23 @@
 // Which literals a type takes. An i64 enters as its bits.
 ghost use mathlib.Core.Path.{_≡_};
-ghost use mathlib.Core.Bool.{Bool};
-ghost use mathlib.Core.Option.{Option};
 ghost use Prim.Native.Nat.{ℕ, _-_, _^_};
 ghost use lib.Dec.{ltb};
 ghost use lib.IntN.{pos};
 ghost use lib.Signed.{mag};
-ghost use Rattle.rules.specs.Syntax.{ResolvedType};
-ghost use Rattle.rules.specs.Types.{is-float};
 ghost use Rattle.rules.specs.Fits.{takes, range-of, int-of, int-fits, uint-fits};
-ghost use Rattle.held.specs.Holds.{Each, MaybeHolds};
+ghost use Rattle.held.specs.Holds.{Each, EachMaybe, MaybeHolds};
 ghost use Rattle.types.specs.Ranges.{range};
 ghost use Rattle.types.specs.Literals.{literal-type};
 use crate::tests::is_float;
 use held::types::HeldType;
 use held::types::MaybeType;
 use rules::ids::PrimitiveType;
+
+// 2 ^ 63: from here on the bits are a negative integer's.
+const NEGATIVE: u64 = 9223372036854775808;
+
+// 2 ^ 64 - 1, the bits of -1.
+const LAST: u64 = 18446744073709551615;
 
 // The integers that a type takes: those of a signed or an unsigned width, all, or none.
 pub enum Range {
@@ -26,7 +28,7 @@ pub enum Range {
 }
 
 pub fn literal_int_type(bits: u64, expected: MaybeType) -> MaybeType
-    ensures { λ r. ⌜ ((names : ℕ) (o : Option ResolvedType) → MaybeHolds names expected o → MaybeHolds names r (literal-type 0 bits o)) ⌝ }
+    ensures { λ r. ⌜ EachMaybe expected (λ names o. MaybeHolds names r (literal-type 0 bits o)) ⌝ }
 {
     if expected.some {
         let ty = expected.ty;
@@ -39,7 +41,7 @@ pub fn literal_int_type(bits: u64, expected: MaybeType) -> MaybeType
 }
 
 pub fn literal_uint_type(bits: u64, expected: MaybeType) -> MaybeType
-    ensures { λ r. ⌜ ((names : ℕ) (o : Option ResolvedType) → MaybeHolds names expected o → MaybeHolds names r (literal-type 1 bits o)) ⌝ }
+    ensures { λ r. ⌜ EachMaybe expected (λ names o. MaybeHolds names r (literal-type 1 bits o)) ⌝ }
 {
     if expected.some {
         let ty = expected.ty;
@@ -51,8 +53,9 @@ pub fn literal_uint_type(bits: u64, expected: MaybeType) -> MaybeType
     MaybeType::some(HeldType::plain(PrimitiveType::U64))
 }
 
-pub fn literal_float_type(bits: u64, expected: MaybeType) -> MaybeType
-    ensures { λ r. ⌜ ((names : ℕ) (o : Option ResolvedType) → MaybeHolds names expected o → MaybeHolds names r (literal-type 2 bits o)) ⌝ }
+// Of every float's bits.
+pub fn literal_float_type(expected: MaybeType) -> MaybeType
+    ensures { λ r. ⌜ EachMaybe expected (λ names o. (bits : ℕ) → MaybeHolds names r (literal-type 2 bits o)) ⌝ }
 {
     if expected.some {
         let ty = expected.ty;
@@ -111,7 +114,7 @@ pub fn int_in(bits: u64, taken: Range) -> bool
     match taken {
         Range::Signed(width) => below_power(magnitude(bits), shift(width)),
         Range::Unsigned(width) => {
-            if bits < 9223372036854775808 {
+            if bits < NEGATIVE {
                 return below_power(bits, width);
             }
             false
@@ -137,11 +140,7 @@ pub fn uint_in(bits: u64, taken: Range) -> bool
 pub fn magnitude(bits: u64) -> u64
     ensures { λ r. ⌜ r ≡ mag (int-of bits) ⌝ }
 {
-    if bits < 9223372036854775808 {
-        bits
-    } else {
-        18446744073709551615 - bits
-    }
+    if bits < NEGATIVE { bits } else { LAST - bits }
 }
 
 // A signed width without its sign.

@@ -1,16 +1,12 @@
 // Type tests.
 ghost use mathlib.Core.Path.{_≡_};
-ghost use mathlib.Core.Bool.{Bool};
-ghost use mathlib.Core.Option.{Option};
-ghost use Prim.Native.Nat.{ℕ};
-ghost use Rattle.rules.specs.Syntax.{ResolvedType};
-ghost use Rattle.rules.specs.Types.{is-numeric, is-signed-numeric, is-equality-type, is-float, contains-poison, normalize-return};
-ghost use Rattle.held.specs.Holds.{Each, MaybeHolds};
+ghost use Rattle.rules.specs.Types.{is-numeric, is-signed-numeric, is-equality-type, is-float, contains-poison, normalize-return, same-return};
+ghost use Rattle.held.specs.Holds.{Each, EachMaybe, MaybeHolds};
 ghost use Rattle.types.specs.Tests.{Same};
 ghost use Rattle.types.specs.Headers.{header-of, poison-words};
-use held::kinds::type_kind;
 use held::types::HeldType;
 use held::types::MaybeType;
+use kinds::type_kind;
 use rules::ids::PrimitiveType;
 use rules::ids::TypeId;
 use rules::kinds::TypeKind;
@@ -82,7 +78,7 @@ pub fn is_float(ty: HeldType) -> bool
 
 // Void as a return means none.
 pub fn normalize_return(return_type: MaybeType) -> MaybeType
-    ensures { λ r. ⌜ ((names : ℕ) (o : Option ResolvedType) → MaybeHolds names «return_type» o → MaybeHolds names r (normalize-return o)) ⌝ }
+    ensures { λ r. ⌜ EachMaybe «return_type» (λ names o. MaybeHolds names r (normalize-return o)) ⌝ }
 {
     if return_type.some {
         let ty = return_type.ty;
@@ -92,6 +88,21 @@ pub fn normalize_return(return_type: MaybeType) -> MaybeType
         return return_type;
     }
     return_type
+}
+
+// Whether two returns are the same: both none, or the same type.
+pub fn same_return(a: MaybeType, b: MaybeType) -> bool
+    ensures { λ r. ⌜ EachMaybe a (λ m t. EachMaybe b (λ n u. r ≡ same-return t u)) ⌝ }
+{
+    if a.some {
+        if b.some {
+            let left = a.ty;
+            let right = b.ty;
+            return same_type(left, right);
+        }
+        return false;
+    }
+    !b.some
 }
 
 // Whether poison occurs anywhere in a type: a walk over its nodes.

@@ -1,65 +1,25 @@
-use mathlib.Core.Path.{_≡_, refl, sym}
-use borrow.Author.Tests.{lt-ltb, le-ltb, eq-eqb, ne-eqb}
-use Rattle.rules.specs.Kinds.{type-kind}
+-- `kinds::type_kind` meets its contract, by the laws of the codes. Assumes nothing.
+use mathlib.Core.Path.{sym}
+use Rattle.kinds.proofs.Codes.{sub-at, named-at, qualified-at, generic-at, fixed-at, bits-at, one-at, primitive-in, semantic-in, low-one-in, high-one-in, two-in, low-off, middle-off, high-off}
 use Rattle.kinds.proofs.type_kind.Statement.{statement}
 use Rattle.kinds.proofs.type_kind.Tie as tie
-
-returns : tie.Need-returns
-unfolding type-kind
-returns c = simp (lt-ltb _ _ (c .if1 .taken))
-
-returns-2 : tie.Need-returns-2
-unfolding type-kind
-returns-2 c = rw (c .if2 .taken)
-
-returns-3 : tie.Need-returns-3
-unfolding type-kind
-returns-3 c = simp (le-ltb _ _ (c .before .before .if1 .left), ne-eqb _ _ (c .before .if2 .left), (c .if3 .taken))
-
-returns-4 : tie.Need-returns-4
-unfolding type-kind
-returns-4 c = rw (c .if4 .taken)
-
-returns-5 : tie.Need-returns-5
-unfolding type-kind
-returns-5 c = rw (c .if5 .taken)
-
-returns-6 : tie.Need-returns-6
-unfolding type-kind
-returns-6 c = rw (c .if6 .taken)
-
-returns-7 : tie.Need-returns-7
-unfolding type-kind
-returns-7 c = rw (c .if7 .taken)
-
-returns-8 : tie.Need-returns-8
-unfolding type-kind
-returns-8 c = simp (le-ltb _ _ (c .before .before .before .before .before .before .before .if1 .left), ne-eqb _ _ (c .before .before .before .before .before .before .if2 .left), (c .before .before .before .before .before .if3 .left), ne-eqb _ _ (c .before .before .before .before .if4 .left), ne-eqb _ _ (c .before .before .before .if5 .left), ne-eqb _ _ (c .before .before .if6 .left), ne-eqb _ _ (c .before .if7 .left), (c .if8 .taken))
-
-returns-9 : tie.Need-returns-9
-unfolding type-kind
-returns-9 c = simp (le-ltb _ _ (c .before .before .before .before .before .before .before .before .if1 .left), ne-eqb _ _ (c .before .before .before .before .before .before .before .if2 .left), (c .before .before .before .before .before .before .if3 .left), ne-eqb _ _ (c .before .before .before .before .before .if4 .left), ne-eqb _ _ (c .before .before .before .before .if5 .left), ne-eqb _ _ (c .before .before .before .if6 .left), ne-eqb _ _ (c .before .before .if7 .left), (c .before .if8 .left), (c .if9 .taken))
-
-returns-10 : tie.Need-returns-10
-unfolding type-kind
-returns-10 c = rw (c .if10 .taken)
-
-returns-11 : tie.Need-returns-11
-unfolding type-kind
-returns-11 c = simp (le-ltb _ _ (c .before .before .before .before .before .before .before .before .before .if1 .left), ne-eqb _ _ (c .before .before .before .before .before .before .before .before .if2 .left), (c .before .before .before .before .before .before .before .if3 .left), ne-eqb _ _ (c .before .before .before .before .before .before .if4 .left), ne-eqb _ _ (c .before .before .before .before .before .if5 .left), ne-eqb _ _ (c .before .before .before .before .if6 .left), ne-eqb _ _ (c .before .before .before .if7 .left), (c .before .before .if8 .left), (c .before .if9 .left), ne-eqb _ _ (c .if10 .left))
 
 pub type-kind-spec : {M : Type 1} → statement M
 type-kind-spec =
     tie.close
     (tie.spec
-    returns
-    returns-2
-    returns-3
-    returns-4
-    returns-5
-    returns-6
-    returns-7
-    returns-8
-    returns-9
-    returns-10
-    returns-11)
+    (λ c. sym (sub-at (c .match .keys1)))
+    (λ c. sym (named-at (c .match .keys2)))
+    (λ c. sym (qualified-at (c .match .keys3)))
+    (λ c. sym (generic-at (c .match .keys4)))
+    (λ c. sym (fixed-at (c .match .keys5)))
+    (λ c. sym (bits-at (c .match .keys7)))
+    (λ c. sym (two-in _ (c .before .if5 .left) (c .if6 .taken) (c .before .before .before .before .before .before .match .rest)))
+    (λ c. sym (low-off _ (c .before .if1 .left) (c .if2 .taken) (c .before .before .match .rest)))
+    (λ c. sym (middle-off _ (c .before .if3 .left) (c .if4 .taken) (c .before .before .before .before .match .rest)))
+    (λ c. sym (high-off _ (c .if7 .left) (c .before .before .before .before .before .before .before .match .rest)))
+    (λ c. sym (primitive-in _ (c .if1 .taken)))
+    (λ c. sym (semantic-in _ (c .before .if2 .left) (c .if3 .taken)))
+    (λ c. sym (one-at (c .match .keys6)))
+    (λ c. sym (low-one-in _ (c .before .if4 .left) (c .if5 .taken)))
+    (λ c. sym (high-one-in _ (c .before .if6 .left) (c .if7 .taken))))

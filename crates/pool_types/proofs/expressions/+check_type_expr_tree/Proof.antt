@@ -10,7 +10,7 @@ use borrow.Fn.PlainCycle.{Measures, is, falls, and}
 use Rattle.pool_types.proofs.expressions.check_type_expr_tree.Reads as check-type-expr-tree
 use Rattle.pool_types.proofs.expressions.check_type_expr_tree.Kinds as check-type-expr-tree-kinds
 use Rattle.pool_types.proofs.expressions.+check_type_expr_tree.Lts-check_type_expr_tree as check-type-expr-tree-lts
-use Rattle.pool_types.proofs.kinds.type_kind.Reads as type-kind-reads
+use Rattle.kinds.proofs.type_kind.Reads as type-kind-reads
 use Rattle.pool_types.proofs.parts.check_bits.Reads as check-bits-reads
 use Rattle.pool_types.proofs.parts.check_sub.Reads as check-sub-reads
 use Rattle.pool_types.proofs.parts.check_wide.Reads as check-wide-reads

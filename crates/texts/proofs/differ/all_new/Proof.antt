@@ -17,7 +17,7 @@ abbrev μ-loop : tie.MeasureT-loop
 μ-loop image names-start names hs i₀ i = names - i
 
 is-new-requires : tie.Need-is-new-requires Inv-loop μ-loop
-is-new-requires c κs = let b = c .before .before .before .before in (b .pre .0, omega arith, omega arith, λ k h. b .pre .3 k (omega arith))
+is-new-requires c κs = let b = c .before .before .before .before in (b .pre .0, omega arith, λ k h. b .pre .3 k (omega arith))
 
 returns : tie.Need-returns Inv-loop μ-loop
 unfolding rows-differ
@@ -45,6 +45,7 @@ all-new-spec =
     Inv-loop
     μ-loop
     (λ c. (search needs, all-none (new-row _ _)))
+    (λ c. search needs)
     is-new-requires
     returns
     (λ c. search needs)

@@ -12,7 +12,7 @@ literal-float-type-spec =
     tie.close
     (tie.spec
     (λ c κs. search needs)
-    (λ c names o m. given names 2 _ _ _ o m (c .before .before .if1 .taken) (λ names t p. unfold literal-fits in c .is-float .ensures names t p))
+    (λ c names o m bits. given names 2 bits _ _ o m (c .before .before .if1 .taken) (λ names t p. unfold literal-fits in c .is-float .ensures names t p))
     (λ c κs. search needs)
     (λ c κs. search needs)
-    (λ c names o m. own names 2 _ _ 10 _ _ o m (c .before .before .if1 .left) (unfold literal-own in refl) (lit< tt) (c .before .plain .ensures) (c .some .ensures)))
+    (λ c names o m bits. own names 2 bits _ 10 _ _ o m (c .before .before .if1 .left) (unfold literal-own in refl) (lit< tt) (c .before .plain .ensures) (c .some .ensures)))

@@ -5,7 +5,7 @@ use mathlib.Core.Path.{_≡_, _∙_}
 use borrow.Author.Needs.{needs}
 use lib.ListN.{drop}
 use Rattle.held.specs.Runs.{held-run}
-use Rattle.types.proofs.Walk.{poisoned, header-positive, header-most, walk-on, walk-hit, poisoned-end}
+use Rattle.types.proofs.Walk.{poisoned, header-size, walk-on, walk-hit, poisoned-end}
 use Rattle.types.proofs.Poison.{poison-held}
 use Rattle.types.proofs.tests.contains_poison.Statement.{statement}
 use Rattle.types.proofs.tests.contains_poison.Tie as tie
@@ -35,8 +35,8 @@ contains-poison-spec =
     ∙ walk-hit (held-run (loop .before .before .args .ty)) (loop .loop .i) (omega arith) (c .before .before .before .word .ensures) (c .before .before .word2 .ensures) (c .before .is-poison .ensures) (c .if1 .taken)))
     (λ c κs. search needs)
     (λ c κs. search needs)
-    (λ c. omega (arith, header-most (c .before .type-kind .result) (c .before .before .before .before .word2 .result)))
-    (λ c. omega (arith, header-positive (c .before .type-kind .result) (c .before .before .before .before .word2 .result)))
+    (λ c. omega (arith, header-size (c .before .type-kind .result) (c .before .before .before .before .word2 .result) .1))
+    (λ c. omega (arith, header-size (c .before .type-kind .result) (c .before .before .before .before .word2 .result) .0))
     (λ c.
     c .before .before .before .before .before .before .before .loop .inv
     ∙ walk-on _ _ (omega arith) (c .before .before .before .before .before .word .ensures) (c .before .before .before .before .word2 .ensures) (c .before .before .before .is-poison .ensures) (c .before .before .if1 .left) (c .before .type-kind .ensures) (c .header .ensures))

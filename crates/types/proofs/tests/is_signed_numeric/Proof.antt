@@ -1,7 +1,7 @@
 -- `types::tests::is_signed_numeric` meets its contract, by the laws of the codes. Assumes nothing.
 use native.Mathlib.Omega.{arith}
 use Prim.Native.Nat.{ℕ}
-use mathlib.Core.Path.{sym, ap, _∙_}
+use mathlib.Core.Path.{ap, _∙_}
 use lib.Dec.{eqb}
 use borrow.Author.Needs.{needs}
 use Rattle.types.proofs.ByCode.{signed-held, signed-in, signed-sub, signed-off}

@@ -1,7 +1,7 @@
 -- `held::types::HeldType::push` meets its contract. Assumes nothing.
 use native.Mathlib.Omega.{arith}
 use borrow.Author.Needs.{needs}
-use lib.ListN.{length-append, length-set}
+use lib.ListN.{length-append}
 use Rattle.held.proofs.Runs.{counted, grown, not-grown, pushed}
 use Rattle.held.proofs.types.HeldType.push.Statement.{statement}
 use Rattle.held.proofs.types.HeldType.push.Tie as tie

@@ -1,0 +1,1 @@
+//! Stands for `crate::ast::visit`, the walkers over the source tree. Nothing here walks it.

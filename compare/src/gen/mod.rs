@@ -1,0 +1,174 @@
+//! Seeded cases: images that are rich, at an edge or damaged, and calls on them with buffers around each boundary.
+
+mod body;
+mod bounds;
+mod damage;
+mod edges;
+mod large;
+mod model;
+mod rich;
+mod rng;
+mod tiny;
+mod types;
+
+use std::collections::VecDeque;
+use std::rc::Rc;
+
+use crate::case::Case;
+use crate::second::{self, Answer, Call, DETAIL_BYTES};
+use bounds::BOUNDS;
+#[cfg(test)]
+pub use edges::whole_case;
+pub use edges::{edges, Edge};
+use model::Model;
+use rng::Rng;
+
+/// Numbers that an image is aimed at. Some are also met on the way to others.
+const AIMS: [u32; 28] =
+    [0, 0, 0, 4, 5, 6, 6, 7, 7, 8, 8, 9, 10, 11, 12, 13, 14, 15, 16, 17, 18, 19, 20, 20, 21, 21, 22, 23];
+
+/// An endless supply of cases from one seed.
+pub struct Cases {
+    rng: Rng,
+    waiting: VecDeque<Case>,
+}
+
+impl Cases {
+    pub fn new(seed: u64) -> Self {
+        Cases { rng: Rng::new(seed), waiting: VecDeque::new() }
+    }
+
+    fn refill(&mut self) {
+        let rng = &mut self.rng;
+        let kind = rng.below(100);
+        let aim = match kind {
+            0..8 => None,
+            8..14 => Some(0),
+            _ => Some(*rng.pick(&AIMS)),
+        };
+        let bulk = if rng.below(500) == 0 { rng.between(5, 60) } else { 0 };
+        let mut rich = rich::rich(rng, aim, bulk);
+        if (8..14).contains(&kind) {
+            let (_, bound) = rng.pick(&BOUNDS);
+            let past = rng.below(2);
+            bound(rng, &mut rich, past);
+        }
+        if rng.chance(1) {
+            other_texts(rng, &mut rich.model);
+        }
+        let mut image = if rng.chance(70) { rich.model.loose_image(rng) } else { rich.model.plain_image() };
+        if kind >= 88 {
+            damage::damage(rng, &mut image);
+        }
+        let rows = rich.model.defs.len() as u32;
+        ask(rng, image.into(), rich.row, rows, &mut self.waiting);
+    }
+}
+
+impl Iterator for Cases {
+    type Item = Case;
+
+    fn next(&mut self) -> Option<Case> {
+        while self.waiting.is_empty() {
+            self.refill();
+        }
+        self.waiting.pop_front()
+    }
+}
+
+/// Texts that are not ASCII: 01 takes any bytes.
+fn other_texts(rng: &mut Rng, model: &mut Model) {
+    let name = rng.below(model.names.len());
+    model.names[name].text.push(128 + rng.below(128) as u8);
+    if let Some(text) = model.strings.first_mut() {
+        text.push(rng.next() as u8);
+    }
+}
+
+/// Calls on one image: both of them, other rows, and lengths around each boundary.
+fn ask(rng: &mut Rng, image: Rc<[u8]>, row: u32, rows: u32, cases: &mut VecDeque<Case>) {
+    for call in [Call::ProjectImpl, Call::ExpectedSignatures] {
+        if call == Call::ExpectedSignatures && rng.chance(60) {
+            continue;
+        }
+        let base = Case { call, image: image.clone(), row, output: 0, detail: DETAIL_BYTES };
+        let answer = plain(&base);
+        let need = if answer.number == 24 { answer.length as usize } else { rng.below(64) };
+        let mut lengths =
+            vec![(need + *rng.pick(&[0, 0, 0, 1, 1, 2, 3, 4, 100, 4_096]), DETAIL_BYTES + *rng.pick(&[0, 0, 1, 64]))];
+        if answer.number == 24 && rng.chance(35) {
+            let any = rng.below(need);
+            lengths.push((*rng.pick(&[0, need - 1, need - 2, need - 4, any]), DETAIL_BYTES));
+        }
+        if rng.chance(6) {
+            lengths.push((need, *rng.pick(&[0, 1, 300, DETAIL_BYTES - 4, DETAIL_BYTES - 1])));
+        }
+        cases.extend(lengths.into_iter().map(|(output, detail)| Case { output, detail, ..base.clone() }));
+        if rng.chance(6) {
+            let any = rng.below(rows as usize) as u32;
+            let row = *rng.pick(&[any, rows, rows + 1, u32::MAX, 0]);
+            cases.push_back(Case { row, output: need, ..base });
+        }
+    }
+}
+
+/// Every edge, asked both ways with room enough and with none.
+pub fn edge_cases() -> impl Iterator<Item = Case> {
+    edges().into_iter().flat_map(|edge| {
+        let image: Rc<[u8]> = edge.image.into();
+        [Call::ProjectImpl, Call::ExpectedSignatures].into_iter().flat_map(move |call| {
+            let base = Case { call, image: image.clone(), row: edge.row, output: 0, detail: DETAIL_BYTES };
+            let exact = needed(&base).map(|output| Case { output, ..base.clone() });
+            [Some(base), exact].into_iter().flatten()
+        })
+    })
+}
+
+/// Cases whose aliases never end.
+pub fn cyclic_cases(seed: u64) -> impl Iterator<Item = Case> {
+    let mut rng = Rng::new(seed);
+    std::iter::repeat_with(move || {
+        let mut rich = rich::rich(&mut rng, Some(0), 0);
+        let expression = large::cyclic(&mut rng, &mut rich.model);
+        large::place(&mut rng, &mut rich.model, rich.row, expression);
+        let call = *rng.pick(&[Call::ProjectImpl, Call::ExpectedSignatures]);
+        let image = rich.model.plain_image().into();
+        Case { call, image, row: rich.row, output: 0, detail: DETAIL_BYTES }
+    })
+}
+
+/// Some cases with images of 4 to 16 KB; the last three are of 64 KB.
+pub fn large_cases(seed: u64, count: usize) -> Vec<(String, Case)> {
+    let mut rng = Rng::new(seed);
+    let mut cases = vec![];
+    while cases.len() < count {
+        let whole = cases.len() + 3 >= count;
+        let aim = *rng.pick(&[0, 0, 0, 21]);
+        let bulk = if whole { 50 } else { rng.between(5, 15) };
+        let rich = rich::rich(&mut rng, Some(aim), bulk);
+        let mut image = rich.model.loose_image(&mut rng);
+        let fits = if whole { 32_768..=65_536 } else { 4_096..=16_384 };
+        if !fits.contains(&image.len()) {
+            continue;
+        }
+        if whole {
+            image = tiny::padded(&image, 65_536 - 256 * (count - 1 - cases.len()));
+        }
+        let call = *rng.pick(&[Call::ProjectImpl, Call::ProjectImpl, Call::ExpectedSignatures]);
+        let base = Case { call, image: image.into(), row: rich.row, output: 0, detail: DETAIL_BYTES };
+        let output = needed(&base).unwrap_or(16);
+        cases.push((format!("large-{}", cases.len()), Case { output, ..base }));
+    }
+    cases
+}
+
+/// The bytes of output that a case needs, if it is accepted.
+pub fn needed(case: &Case) -> Option<usize> {
+    let answer = plain(case);
+    (answer.number == 24).then_some(answer.length as usize)
+}
+
+/// A case's answer, for aiming only.
+fn plain(case: &Case) -> Answer {
+    second::answer(case.call, &case.image, case.row, &mut [], &mut [0; DETAIL_BYTES])
+}

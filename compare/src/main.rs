@@ -1,0 +1,173 @@
+//! The original Rust beside a second reading of document 01, over seeded images.
+
+mod buffers;
+mod case;
+mod cases;
+mod child;
+mod gen;
+mod judge;
+mod options;
+mod sample;
+mod second;
+mod sentence;
+mod table;
+mod text;
+
+use std::path::Path;
+use std::process::ExitCode;
+use std::time::Instant;
+
+use judge::Judge;
+use options::Options;
+use table::Table;
+
+const USAGE: &str = "\
+usage: compare/run SUBCOMMAND [OPTION ..]
+  run     [--seed S] [--cases N]   every edge, then N cases from seed S, through both sides; prints a table
+  cyclic  [--seed S] [--cases N]   N cases that never end, each in a child process of the Rust
+  text    [--seed S] [--cases N] [--max-image BYTES] [--large N]
+                                   N cases as lines of text, balanced over numbers; the last of them large
+  text    --from FILE              the same for stored cases
+  vectors [--seed S] --to FOLDER   writes the stored cases there: cases.bin, and a label for each in labels.txt
+  check   --from FILE              asks both sides about the stored cases
+  show    --from FILE --case N     prints one stored case
+  build, test                      only builds or tests";
+
+/// Why a run ends without success.
+enum Failure {
+    /// The sides differ: exit 1.
+    Differs(String),
+    /// Bad options, files or surroundings: exit 2.
+    Bad(String),
+}
+
+impl From<String> for Failure {
+    fn from(message: String) -> Self {
+        Failure::Bad(message)
+    }
+}
+
+fn main() -> ExitCode {
+    let words: Vec<String> = std::env::args().skip(1).collect();
+    match command(&words) {
+        Ok(()) => ExitCode::SUCCESS,
+        Err(Failure::Differs(message)) => {
+            eprintln!("compare: {message}");
+            ExitCode::from(1)
+        }
+        Err(Failure::Bad(message)) => {
+            eprintln!("compare: {message}");
+            ExitCode::from(2)
+        }
+    }
+}
+
+fn command(words: &[String]) -> Result<(), Failure> {
+    let Some((name, rest)) = words.split_first() else {
+        return Err(Failure::Bad(USAGE.into()));
+    };
+    let options = |known: &[&str]| Options::parse(rest, known);
+    match name.as_str() {
+        "run" => run(&options(&["seed", "cases"])?),
+        "cyclic" => cyclic(&options(&["seed", "cases"])?),
+        "text" => lines(&options(&["seed", "cases", "max-image", "large", "from"])?),
+        "vectors" => vectors(&options(&["seed", "to"])?),
+        "check" => check(&options(&["from"])?),
+        "show" => show(&options(&["from", "case"])?),
+        child::SUBCOMMAND if rest.len() == 2 => Ok(child::answer(&rest[0], &rest[1])?),
+        _ => Err(Failure::Bad(format!("no such subcommand: {name}\n{USAGE}"))),
+    }
+}
+
+fn run(options: &Options) -> Result<(), Failure> {
+    let (seed, count) = (options.number("seed", 1)?, options.number("cases", 100_000)?);
+    let (mut judge, mut table, begun) = (Judge::default(), Table::default(), Instant::now());
+    for case in gen::edge_cases().chain(gen::Cases::new(seed)).take(count) {
+        table.add(&case, judge.judge(&case));
+    }
+    let seconds = begun.elapsed().as_secs_f64();
+    println!("seed {seed}, {count} cases, {:.0} a second\n{table}", count as f64 / seconds);
+    if table.agrees() {
+        Ok(())
+    } else {
+        Err(Failure::Differs("the sides differ".into()))
+    }
+}
+
+fn cyclic(options: &Options) -> Result<(), Failure> {
+    let (seed, count) = (options.number("seed", 1)?, options.number("cases", 48)?);
+    let mut judge = Judge::default();
+    for (place, case) in gen::cyclic_cases(seed).take(count).enumerate() {
+        let number = judge.judge(&case).map_err(Failure::Differs)?.whole.answer.number;
+        let status = child::ask(&case)?;
+        println!("{place}: the second reading says {number}, the Rust ends with {status}");
+        if number != 8 || status.success() {
+            return Err(Failure::Differs(format!("a cyclic case that ends: {}", text::question(&case))));
+        }
+    }
+    println!("{count} cyclic cases: 8 each, and the Rust died in each");
+    Ok(())
+}
+
+fn lines(options: &Options) -> Result<(), Failure> {
+    let sample = match options.text("from") {
+        Some(path) => {
+            (0..).zip(read_cases(path)?).map(|(place, (case, whole))| (format!("v{place}"), case, whole)).collect()
+        }
+        None => {
+            let (seed, count) = (options.number("seed", 1)?, options.number("cases", 1_000)?);
+            let (most, large) = (options.number("max-image", 1_500)?, options.number("large", 0)?);
+            sample::balanced(seed, count, most, large).map_err(Failure::Differs)?
+        }
+    };
+    for (label, case, whole) in &sample {
+        println!("{}", text::line(label, case, whole));
+    }
+    Ok(())
+}
+
+fn vectors(options: &Options) -> Result<(), Failure> {
+    let folder = options.text("to").ok_or("vectors wants --to FOLDER".to_string())?;
+    let sample = sample::vectors(options.number("seed", 1)?).map_err(Failure::Differs)?;
+    let labels: String = sample.iter().map(|(label, _, _)| format!("{label}\n")).collect();
+    let cases: Vec<_> = sample.into_iter().map(|(_, case, whole)| (case, whole)).collect();
+    let bytes = cases::to_bytes(&cases);
+    for (name, bytes) in [("cases.bin", bytes.as_slice()), ("labels.txt", labels.as_bytes())] {
+        let path = Path::new(folder).join(name);
+        std::fs::write(&path, bytes).map_err(|error| format!("cannot write {}: {error}", path.display()))?;
+    }
+    println!("{} cases, {} bytes", cases.len(), bytes.len());
+    Ok(())
+}
+
+fn check(options: &Options) -> Result<(), Failure> {
+    let path = options.text("from").ok_or("check wants --from FILE".to_string())?;
+    let (mut judge, mut table) = (Judge::default(), Table::default());
+    for (place, (case, stored)) in read_cases(path)?.into_iter().enumerate() {
+        let judged = judge.judge(&case).and_then(|judged| match judged.whole == stored {
+            true => Ok(judged),
+            false => Err(format!("stored case {place} has another answer")),
+        });
+        table.add(&case, judged);
+    }
+    print!("{table}");
+    if table.agrees() {
+        Ok(())
+    } else {
+        Err(Failure::Differs("stored cases differ".into()))
+    }
+}
+
+fn show(options: &Options) -> Result<(), Failure> {
+    let path = options.text("from").ok_or("show wants --from FILE".to_string())?;
+    let place: usize = options.number("case", 0)?;
+    let cases = read_cases(path)?;
+    let (case, whole) = cases.get(place).ok_or(format!("there are {} cases, from 0", cases.len()))?;
+    print!("{}", text::readable(case, whole));
+    Ok(())
+}
+
+fn read_cases(path: &str) -> Result<Vec<(case::Case, case::Whole)>, String> {
+    let bytes = std::fs::read(path).map_err(|error| format!("cannot read {path}: {error}"))?;
+    cases::from_bytes(&bytes).map_err(|why| format!("{path} is no file of cases: {why}"))
+}

@@ -1,0 +1,120 @@
+//! Chosen cases with their whole answers: a balanced sample for another tool, and the stored vectors.
+
+use std::collections::BTreeMap;
+use std::rc::Rc;
+
+use crate::case::{Case, Whole};
+use crate::gen::{self, Cases, Edge};
+use crate::judge::Judge;
+use crate::second::{Call, DETAIL_BYTES};
+
+pub type Sample = Vec<(String, Case, Whole)>;
+
+/// Edges whose answer is stored with every length around its boundaries.
+const AT_EVERY_LENGTH: [&str; 5] = ["whole-case", "visits-1024", "map-visits-6", "functions-order", "true-equals-p"];
+
+/// Edges that depend on the trait alone are asked for their signatures too.
+const ASKED_TWICE: [&str; 12] = [
+    "visits-",
+    "words-",
+    "dropped-",
+    "cyclic-",
+    "alias-",
+    "map-",
+    "qualified-",
+    "return-",
+    "trait-",
+    "target-",
+    "row-",
+    "type-parameter-",
+];
+
+/// Cases with images of at most so many bytes, as many of each number of each call as can be, then some large ones.
+pub fn balanced(seed: u64, count: usize, most: usize, large: usize) -> Result<Sample, String> {
+    // 01's numbers: 25 of one call, and 9 of the other.
+    let quota = count.saturating_sub(large).div_ceil(34);
+    let mut taken: BTreeMap<(Call, u32), usize> = BTreeMap::new();
+    let mut judge = Judge::default();
+    let mut sample = vec![];
+    // An end, should the images asked for be too small to be met.
+    let supply = Cases::new(seed).take(100_000 + 400 * count);
+    for case in supply.filter(|case| case.image.len() <= most) {
+        if sample.len() + large >= count {
+            break;
+        }
+        let whole = judge.judge(&case)?.whole;
+        let bucket = taken.entry((case.call, whole.answer.number)).or_default();
+        if *bucket < quota {
+            *bucket += 1;
+            sample.push((format!("{}", sample.len()), case, whole));
+        }
+    }
+    if sample.len() + large != count {
+        return Err(format!(
+            "found {} cases with images of at most {most} bytes, and {large} large ones",
+            sample.len()
+        ));
+    }
+    for (label, case) in gen::large_cases(seed, large) {
+        let whole = judge.judge(&case)?.whole;
+        sample.push((label, case, whole));
+    }
+    Ok(sample)
+}
+
+/// The vectors: every edge, and a few random cases of each number.
+pub fn vectors(seed: u64) -> Result<Sample, String> {
+    let mut judge = Judge::default();
+    let mut sample = vec![];
+    let mut add = |label: String, case: Case| -> Result<(), String> {
+        let whole = judge.judge(&case).map_err(|said| format!("{label}: {said}"))?.whole;
+        sample.push((label, case, whole));
+        Ok(())
+    };
+    for (place, edge) in gen::edges().into_iter().filter(stored).enumerate() {
+        let image: Rc<[u8]> = edge.image.into();
+        let whole_case = edge.label == "whole-case";
+        let twice = whole_case || ASKED_TWICE.iter().any(|start| edge.label.starts_with(start)) && image.len() < 2_000;
+        let calls = [Some(Call::ProjectImpl), twice.then_some(Call::ExpectedSignatures)];
+        for call in calls.into_iter().flatten() {
+            let base = Case { call, image: image.clone(), row: edge.row, output: 0, detail: DETAIL_BYTES };
+            let need = gen::needed(&base).unwrap_or(place % 9);
+            // Replays lend no more than this.
+            let output = (need + usize::from(place % 7 == 0)).min(65_536);
+            add(edge.label.clone(), Case { output, detail: DETAIL_BYTES + place % 3, ..base.clone() })?;
+            if AT_EVERY_LENGTH.contains(&edge.label.as_str()) && (whole_case || call == Call::ProjectImpl) {
+                let outputs = [0, need.saturating_sub(4), need.saturating_sub(1), need, need + 1, need + 3, 65_536];
+                for output in outputs {
+                    add(format!("{}-output-{output}", edge.label), Case { output, ..base.clone() })?;
+                }
+                for detail in [0, 575, 576, 577] {
+                    add(format!("{}-detail-{detail}", edge.label), Case { output: need, detail, ..base.clone() })?;
+                }
+            }
+        }
+    }
+    for (label, case, _) in balanced(seed, 68, 1_200, 0)? {
+        add(format!("random-{label}"), case)?;
+    }
+    Ok(sample)
+}
+
+/// Not every change of the whole case, width and code is stored.
+fn stored(edge: &Edge) -> bool {
+    let label = edge.label.as_str();
+    let number = label.rsplit('-').find_map(|word| word.parse::<usize>().ok()).unwrap_or(0);
+    let of = |starts: &[&str]| starts.iter().any(|start| label.starts_with(start));
+    let literal = label.trim_start_matches('u').strip_prefix("int-");
+    if of(&["whole-case-"]) {
+        number % 16 == 1
+    } else if let Some(ty) = literal {
+        let skipped = ["u16", "u32", "i16", "i32", "fixed64", "signed-63", "unsigned-63"];
+        !skipped.iter().any(|width| ty.starts_with(width))
+    } else if of(&["type-expression-"]) || label == format!("type-{number}") {
+        !matches!(number, 2..=12 | 65 | 67 | 70..=74)
+    } else if label.ends_with("-with-part") {
+        matches!(number, 14 | 63 | 76 | 79 | 81)
+    } else {
+        true
+    }
+}

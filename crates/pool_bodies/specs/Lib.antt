@@ -1,0 +1,2 @@
+pub mod ExprAt
+pub mod StatementAt

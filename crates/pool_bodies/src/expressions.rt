@@ -1,0 +1,202 @@
+// Expressions in the pool.
+use reading::Checked;
+use reading::Section;
+use rules::kinds::ExprKind;
+ghost use Rattle.rules.specs.Reader.{maybe};
+ghost use Rattle.rules.specs.ReadBodies.{exprs, expr-node, expr-tree, expression};
+ghost use Rattle.rules.specs.declared.kinds.ExprKind.the-variants.{Call, TraitMethodCall};
+ghost use Rattle.reading.specs.Verdict.{section-words, Lies, Says};
+
+// So many expressions, each nested at most `nesting` deep.
+pub fn check_exprs(
+    image: &[u8],
+    pool: Section,
+    at: usize,
+    names: u32,
+    strings: u32,
+    nesting: u32,
+    count: u32,
+) -> Checked
+    requires { ⌜ Lies (now image) pool ⌝ }
+    ensures { λ r. ⌜ Says (exprs count (expr-tree names strings nesting)) (section-words (now (image .entry)) pool) at r ⌝ }
+{
+    let mut i = 0;
+    let mut next = at;
+    while i < count {
+        let a = check_expr(image, pool, next, names, strings, nesting);
+        if !a.ok {
+            return a;
+        }
+        next = a.next;
+        i += 1;
+    }
+    Checked { ok: true, next }
+}
+
+// A call behind its code.
+pub fn check_call(
+    image: &[u8],
+    pool: Section,
+    at: usize,
+    names: u32,
+    strings: u32,
+    nesting: u32,
+) -> Checked
+    requires { ⌜ Lies (now image) pool ⌝ }
+    ensures { λ r. ⌜ Says (expr-node names strings (expr-tree names strings nesting) Call 8) (section-words (now (image .entry)) pool) at r ⌝ }
+{
+    let h = reading::check_below(image, pool, at, names);
+    if !h.ok {
+        return h;
+    }
+    let n = h.next;
+    let k = reading::check_below(image, pool, n, 33);
+    if !k.ok {
+        return k;
+    }
+    let m = k.next;
+    check_exprs(
+        image,
+        pool,
+        m,
+        names,
+        strings,
+        nesting,
+        reading::section_word(image, pool, n),
+    )
+}
+
+// A trait method's call behind its code.
+pub fn check_method(
+    image: &[u8],
+    pool: Section,
+    at: usize,
+    names: u32,
+    strings: u32,
+    nesting: u32,
+) -> Checked
+    requires { ⌜ Lies (now image) pool ⌝ }
+    ensures { λ r. ⌜ Says (expr-node names strings (expr-tree names strings nesting) TraitMethodCall 9) (section-words (now (image .entry)) pool) at r ⌝ }
+{
+    let g = reading::check_below(image, pool, at, names);
+    if !g.ok {
+        return g;
+    }
+    let l = g.next;
+    let h = reading::check_below(image, pool, l, names);
+    if !h.ok {
+        return h;
+    }
+    let n = h.next;
+    let k = reading::check_below(image, pool, n, 33);
+    if !k.ok {
+        return k;
+    }
+    let m = k.next;
+    let e = check_expr(image, pool, m, names, strings, nesting);
+    if !e.ok {
+        return e;
+    }
+    let o = e.next;
+    check_exprs(
+        image,
+        pool,
+        o,
+        names,
+        strings,
+        nesting,
+        reading::section_word(image, pool, n),
+    )
+}
+
+// An expression, nested at most `nesting` deep.
+pub fn check_expr(
+    image: &[u8],
+    pool: Section,
+    at: usize,
+    names: u32,
+    strings: u32,
+    nesting: u32,
+) -> Checked
+    requires { ⌜ Lies (now image) pool ⌝ }
+    ensures { λ r. ⌜ Says (expr-tree names strings nesting) (section-words (now (image .entry)) pool) at r ⌝ }
+{
+    if nesting == 0 {
+        return Checked { ok: false, next: 0 };
+    }
+    let a = reading::check_word(pool, at);
+    if !a.ok {
+        return a;
+    }
+    let n = a.next;
+    let k = kinds::expr_kind(reading::section_word(image, pool, at));
+    match k {
+        ExprKind::Literal => pool_types::parts::check_wide(pool, n),
+        ExprKind::Flag => reading::check_below(image, pool, n, 2),
+        ExprKind::Text => reading::check_below(image, pool, n, strings),
+        ExprKind::Local => reading::check_below(image, pool, n, names),
+        ExprKind::SelfRef => a,
+        ExprKind::FieldAccess => {
+            let h = reading::check_below(image, pool, n, names);
+            if !h.ok {
+                return h;
+            }
+            let m = h.next;
+            check_expr(image, pool, m, names, strings, nesting - 1)
+        }
+        ExprKind::Call => check_call(image, pool, n, names, strings, nesting - 1),
+        ExprKind::TraitMethodCall => check_method(image, pool, n, names, strings, nesting - 1),
+        ExprKind::Binary => {
+            let h = reading::check_below(image, pool, n, 10);
+            if !h.ok {
+                return h;
+            }
+            let m = h.next;
+            let l = check_expr(image, pool, m, names, strings, nesting - 1);
+            if !l.ok {
+                return l;
+            }
+            let o = l.next;
+            check_expr(image, pool, o, names, strings, nesting - 1)
+        }
+        ExprKind::Unary => {
+            let h = reading::check_below(image, pool, n, 2);
+            if !h.ok {
+                return h;
+            }
+            let m = h.next;
+            check_expr(image, pool, m, names, strings, nesting - 1)
+        }
+        ExprKind::Unknown => Checked { ok: false, next: 0 },
+    }
+}
+
+// An expression whose nesting is at most 32.
+pub fn check_expression(image: &[u8], pool: Section, at: usize, names: u32, strings: u32) -> Checked
+    requires { ⌜ Lies (now image) pool ⌝ }
+    ensures { λ r. ⌜ Says (expression names strings) (section-words (now (image .entry)) pool) at r ⌝ }
+{
+    check_expr(image, pool, at, names, strings, 32)
+}
+
+// 0, or 1 and an expression.
+pub fn check_maybe_expression(
+    image: &[u8],
+    pool: Section,
+    at: usize,
+    names: u32,
+    strings: u32,
+) -> Checked
+    requires { ⌜ Lies (now image) pool ⌝ }
+    ensures { λ r. ⌜ Says (maybe (expression names strings)) (section-words (now (image .entry)) pool) at r ⌝ }
+{
+    let f = reading::check_below(image, pool, at, 2);
+    if !f.ok {
+        return f;
+    }
+    if reading::section_word(image, pool, at) == 0 {
+        return f;
+    }
+    let n = f.next;
+    check_expression(image, pool, n, names, strings)
+}

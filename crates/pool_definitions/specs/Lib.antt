@@ -1,0 +1,2 @@
+pub mod Different
+pub mod DefinitionAt

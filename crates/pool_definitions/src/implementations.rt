@@ -1,0 +1,98 @@
+// Implementations in the pool.
+use reading::Checked;
+use reading::Section;
+ghost use Rattle.rules.specs.Reader.{many};
+ghost use Rattle.rules.specs.ReadDefinitions.{impl-function, implementation};
+ghost use Rattle.reading.specs.Verdict.{section-words, Lies, Says};
+
+// A name, at most 32 parameters, a return type or none, and the body.
+pub fn check_impl_function(
+    image: &[u8],
+    pool: Section,
+    at: usize,
+    names: u32,
+    strings: u32,
+) -> Checked
+    requires { ⌜ Lies (now image) pool ⌝ }
+    ensures { λ r. ⌜ Says (impl-function names strings) (section-words (now (image .entry)) pool) at r ⌝ }
+{
+    let a = reading::check_below(image, pool, at, names);
+    if !a.ok {
+        return a;
+    }
+    let n = a.next;
+    let p = pool_types::resolved::check_params(image, pool, n, names, 32);
+    if !p.ok {
+        return p;
+    }
+    let m = p.next;
+    let t = pool_types::resolved::check_maybe_type(image, pool, m, names);
+    if !t.ok {
+        return t;
+    }
+    let o = t.next;
+    pool_bodies::bodies::check_body(image, pool, o, names, strings)
+}
+
+// At most 64 functions.
+pub fn check_impl_functions(
+    image: &[u8],
+    pool: Section,
+    at: usize,
+    names: u32,
+    strings: u32,
+) -> Checked
+    requires { ⌜ Lies (now image) pool ⌝ }
+    ensures { λ r. ⌜ Says (many 64 (impl-function names strings)) (section-words (now (image .entry)) pool) at r ⌝ }
+{
+    let n = reading::check_count(image, pool, at, 64);
+    if !n.ok {
+        return n;
+    }
+    let count = reading::section_word(image, pool, at);
+    let mut i = 0;
+    let mut next = n.next;
+    while i < count {
+        let a = check_impl_function(image, pool, next, names, strings);
+        if !a.ok {
+            return a;
+        }
+        next = a.next;
+        i += 1;
+    }
+    Checked { ok: true, next }
+}
+
+// The trait's row and name, the target type, at most 8 type arguments, and the functions.
+pub fn check_implementation(
+    image: &[u8],
+    pool: Section,
+    at: usize,
+    names: u32,
+    strings: u32,
+) -> Checked
+    requires { ⌜ Lies (now image) pool ⌝ }
+    ensures { λ r. ⌜ Says (implementation names strings) (section-words (now (image .entry)) pool) at r ⌝ }
+{
+    let id = reading::check_word(pool, at);
+    if !id.ok {
+        return id;
+    }
+    let l = id.next;
+    let a = reading::check_below(image, pool, l, names);
+    if !a.ok {
+        return a;
+    }
+    let m = a.next;
+    let t = pool_types::resolved::check_type(image, pool, m, names);
+    if !t.ok {
+        return t;
+    }
+    let n = t.next;
+    let g = pool_types::resolved::check_types(image, pool, n, names, 8);
+    if !g.ok {
+        return g;
+    }
+    let o = g.next;
+    check_impl_functions(image, pool, o, names, strings)
+}

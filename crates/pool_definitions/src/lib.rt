@@ -1,0 +1,5 @@
+// Whether a definition's body stands in the pool, as the rules read it.
+pub mod implementations;
+pub mod kinds;
+pub mod messages;
+pub mod traits;

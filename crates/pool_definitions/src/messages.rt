@@ -1,0 +1,26 @@
+// Messages and generic aliases in the pool.
+use reading::Checked;
+use reading::Section;
+ghost use Rattle.rules.specs.ReadDefinitions.{message, generic-alias};
+ghost use Rattle.reading.specs.Verdict.{section-words, Lies, Says};
+
+// At most 256 fields.
+pub fn check_message(image: &[u8], pool: Section, at: usize, names: u32) -> Checked
+    requires { ⌜ Lies (now image) pool ⌝ }
+    ensures { λ r. ⌜ Says (message names) (section-words (now (image .entry)) pool) at r ⌝ }
+{
+    pool_types::resolved::check_params(image, pool, at, names, 256)
+}
+
+// At most 8 type parameters, and the target type.
+pub fn check_generic_alias(image: &[u8], pool: Section, at: usize, names: u32) -> Checked
+    requires { ⌜ Lies (now image) pool ⌝ }
+    ensures { λ r. ⌜ Says (generic-alias names) (section-words (now (image .entry)) pool) at r ⌝ }
+{
+    let p = pool_types::parts::check_names(image, pool, at, names, 8);
+    if !p.ok {
+        return p;
+    }
+    let n = p.next;
+    pool_types::expressions::check_type_expr(image, pool, n, names)
+}

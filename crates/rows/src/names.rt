@@ -1,0 +1,44 @@
+// Name rows: each by itself, and all of them.
+use layout::Layout;
+use rules::ids::NameId;
+use rules::ids::TypeId;
+ghost use Prim.Native.Nat.{_<_};
+ghost use Rattle.layout.specs.Rows.{Cut};
+ghost use Rattle.rows.specs.Verdict.{NameSays, NamesSay};
+
+// A text of 1 to 255 bytes inside the texts, a definition that exists or NONE, an alias's type or NONE.
+fn check_name_row(image: &[u8], l: Layout, i: u32) -> bool
+    requires { ⌜ Cut (now image) l × (i < l .names .rows) ⌝ }
+    ensures { λ r. ⌜ NameSays (now (image .entry)) l i r ⌝ }
+{
+    let row = layout::name_row(image, l, NameId(i));
+    let size = row.size as usize;
+    if !((1 <= size) & (size <= 255) & (row.start as usize + size <= l.texts)) {
+        return false;
+    }
+    let definition = row.definition;
+    if !((definition.0 < l.definitions.rows) | (definition.0 == TypeId::NONE.0)) {
+        return false;
+    }
+    if row.alias == TypeId::NONE.0 {
+        return true;
+    }
+    let pool = l.pool;
+    let a = pool_types::resolved::check_type(image, pool, row.alias as usize, l.names.rows);
+    a.ok
+}
+
+pub fn check_names(image: &[u8], l: Layout) -> bool
+    requires { ⌜ Cut (now image) l ⌝ }
+    ensures { λ r. ⌜ NamesSay (now (image .entry)) l r ⌝ }
+{
+    let n = l.names.rows;
+    let mut i = 0;
+    while i < n {
+        if !check_name_row(image, l, i) {
+            return false;
+        }
+        i += 1;
+    }
+    true
+}

@@ -1,0 +1,29 @@
+-- `sections::layout_of` meets its contract. Assumes nothing.
+use native.Mathlib.Omega.{arith}
+use Rattle.sections.proofs.Trailers.{parts, fewer}
+use borrow.Author.Needs.{needs}
+use Rattle.sections.proofs.layout_of.Statement.{statement}
+use Rattle.sections.proofs.layout_of.Tie as tie
+
+table-requires : tie.Need-table-requires
+table-requires c κs = (omega arith, omega arith, fewer (omega arith) (parts _ _ (c .pre .1) .names))
+
+table-requires-2 : tie.Need-table-requires-2
+table-requires-2 c κs = (omega arith, omega arith, fewer (omega arith) (parts _ _ (c .before .pre .1) .strings))
+
+table-requires-3 : tie.Need-table-requires-3
+table-requires-3 c κs = (omega arith, omega arith, parts _ _ (c .before .before .pre .1) .pool)
+
+sub-table : tie.Need-sub-table
+sub-table c = search needs
+
+table-requires-4 : tie.Need-table-requires-4
+table-requires-4 c κs = (omega arith, omega arith, fewer (omega arith) (parts _ _ (c .before .before .before .pre .1) .definitions))
+
+returns : tie.Need-returns
+returns c = search needs
+
+pub layout-of-spec : {M : Type 1} → statement M
+layout-of-spec =
+    tie.close
+    (tie.spec table-requires table-requires-2 table-requires-3 sub-table table-requires-4 returns)

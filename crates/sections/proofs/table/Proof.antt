@@ -1,0 +1,28 @@
+-- `sections::table` meets its contract. Assumes nothing.
+use mathlib.Core.Path.{refl}
+use native.Mathlib.Omega.{arith}
+use Rattle.sections.proofs.Trailers.{rows-words, rows-few}
+use borrow.Author.Needs.{needs}
+use Rattle.sections.proofs.table.Statement.{statement}
+use Rattle.sections.proofs.table.Tie as tie
+
+sub-rows : tie.Need-sub-rows
+sub-rows c = search needs
+
+mul-rows : tie.Need-mul-rows
+mul-rows c = search needs
+
+div-rows : tie.Need-div-rows
+div-rows c = search needs
+
+mul-t5 : tie.Need-mul-t5
+mul-t5 c = record { fits = omega (arith, rows-few (c .pre .1) (c .pre .2 .few)) }
+
+cast-t8 : tie.Need-cast-t8
+cast-t8 c = search needs
+
+returns : tie.Need-returns
+returns c = record { start = refl; stop = rows-words (c .args .width) (c .pre .2); whole = refl; rows = refl; width = refl }
+
+pub table-spec : {M : Type 1} → statement M
+table-spec = tie.close (tie.spec sub-rows mul-rows div-rows mul-t5 cast-t8 returns)
