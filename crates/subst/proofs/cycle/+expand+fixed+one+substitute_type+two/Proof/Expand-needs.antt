@@ -7,9 +7,9 @@ use native.Mathlib.Omega.{arith}
 use Rattle.rules.specs.Substitute.{lookup-alias}
 use Rattle.laws.specs.Visits.{plain-depth}
 use Rattle.layout.specs.Open.{pool-words}
-use Rattle.subst.proofs.Parts.{generic-stands}
+use Rattle.leaves.proofs.Parts.{generic-stands}
+use Rattle.leaves.proofs.Steps.{says-as, two-stop, two-as-second}
 use Rattle.subst.proofs.Generic.{is-poison, is-expanded, no-alias, an-alias, one-view}
-use Rattle.subst.proofs.Steps.{says-as, two-stop, two-as-second}
 use Rattle.subst.proofs.cycle.expand.Reads as expand
 use Rattle.subst.proofs.cycle.+expand+fixed+one+substitute_type+two.Lts-expand as expand-lts
 use Rattle.subst.proofs.cycle.+expand+fixed+one+substitute_type+two.Proof.Setup.{expand-at, expand-calls}

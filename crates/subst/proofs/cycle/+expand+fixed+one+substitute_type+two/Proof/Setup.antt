@@ -10,6 +10,11 @@ use Rattle.lookups.proofs.generic.lookup_alias.Reads as lookup-alias-reads
 use Rattle.reading.proofs.section_word.Reads as section-word-reads
 use Rattle.scope.proofs.rows.Reads as rows-reads
 use Rattle.scope.proofs.write_row.Reads as write-row-reads
+use Rattle.leaves.proofs.failed.Reads as failed-reads
+use Rattle.leaves.proofs.leaf.Reads as leaf-reads
+use Rattle.leaves.proofs.named.Reads as named-reads
+use Rattle.leaves.proofs.poison.Reads as poison-reads
+use Rattle.leaves.proofs.qualified.Reads as qualified-reads
 use Rattle.subst.proofs.cycle.expand.Reads as expand
 use Rattle.subst.proofs.cycle.expand.Kinds as expand-kinds
 use Rattle.subst.proofs.cycle.+expand+fixed+one+substitute_type+two.Lts-expand as expand-lts
@@ -25,11 +30,6 @@ use Rattle.subst.proofs.cycle.+expand+fixed+one+substitute_type+two.Lts
 use Rattle.subst.proofs.cycle.two.Reads as two
 use Rattle.subst.proofs.cycle.two.Kinds as two-kinds
 use Rattle.subst.proofs.cycle.+expand+fixed+one+substitute_type+two.Lts-two as two-lts
-use Rattle.subst.proofs.leaves.failed.Reads as failed-reads
-use Rattle.subst.proofs.leaves.leaf.Reads as leaf-reads
-use Rattle.subst.proofs.leaves.named.Reads as named-reads
-use Rattle.subst.proofs.leaves.poison.Reads as poison-reads
-use Rattle.subst.proofs.leaves.qualified.Reads as qualified-reads
 
 abbrev pub μ-expand : Measures 2 expand-kinds.ps ℕ
 μ-expand κs a = a .1 .1 .1 .0 + a .1 .1 .1 .0 + 1

@@ -10,8 +10,8 @@ use Rattle.layout.specs.Open.{pool-words}
 use Rattle.held.specs.Runs.{held-run, Grows}
 use Rattle.held.proofs.Trees.{two-built}
 use Rattle.stored.specs.Held.{Expr-stands}
-use Rattle.subst.proofs.Parts.{two-stands}
-use Rattle.subst.proofs.Steps.{two-stop, two-stop-second, two-end}
+use Rattle.leaves.proofs.Parts.{two-stands}
+use Rattle.leaves.proofs.Steps.{two-stop, two-stop-second, two-end}
 use Rattle.subst.proofs.cycle.two.Reads as two
 use Rattle.subst.proofs.cycle.+expand+fixed+one+substitute_type+two.Lts-two as two-lts
 use Rattle.subst.proofs.cycle.+expand+fixed+one+substitute_type+two.Proof.Setup.{two-at, two-calls}

@@ -13,8 +13,8 @@ use Rattle.reading.specs.Steps.{true-false}
 use Rattle.held.specs.declared.types.HeldType.{HeldType}
 use Rattle.held.specs.declared.types.Grown.{Grown}
 use Rattle.held.specs.Holds.{Holds, Built}
-use Rattle.subst.specs.declared.leaves.Resolved.{Resolved}
-use Rattle.subst.specs.Says.{Fails, Says}
+use Rattle.leaves.specs.declared.Resolved.{Resolved}
+use Rattle.leaves.specs.Says.{Fails, Says}
 
 -- not ok, and o passes a bound
 pub says-no : (names left n : ℕ) (o : Counted ResolvedType) (r : Resolved) → r .ok ≡ false → Fails left o → Says names left n o r

@@ -7,8 +7,8 @@ ghost use Prim.Native.Nat.{_<_};
 ghost use mathlib.Core.Path.{_≡_};
 ghost use mathlib.Core.Bool.{false};
 ghost use Rattle.layout.specs.Rows.{Inside, Cut};
-ghost use Rattle.subst.specs.Says.{Keeps};
-ghost use Rattle.subst.specs.Nodes.{Leaves, Names, Qualifieds, Poisons};
+ghost use Rattle.leaves.specs.Says.{Keeps};
+ghost use Rattle.leaves.specs.Nodes.{Leaves, Names, Qualifieds, Poisons};
 
 // What resolving comes to: whether it keeps the bounds, the place behind the expression, the visits left, the type.
 pub struct Resolved {
