@@ -4,11 +4,10 @@ use mathlib.Core.Path.{_≡_}
 use mathlib.Core.Bool.{Bool, true, false}
 use mathlib.Core.List.{List}
 use mathlib.Core.Option.{Option, none, some}
-use Rattle.rules.specs.Syntax.{TypeExpr, expr-run, Param, TypeDef, GenericAliasDef}
+use Rattle.rules.specs.Syntax.{TypeExpr, Param, TypeDef, GenericAliasDef}
 use Rattle.rules.specs.Substitute.{one-parameter}
 use Rattle.rules.specs.declared.kinds.DefinitionKind.{DefinitionKind}
-use Rattle.laws.specs.TypeExprs.{StoredExpr}
-use Rattle.reading.specs.Stands.{Stands}
+use Rattle.stored.specs.Held.{Expr-stands}
 use Rattle.lookups.specs.declared.generic.Alias.{Alias}
 
 abbrev pub is-generic : DefinitionKind → Bool
@@ -18,11 +17,6 @@ is-generic DefinitionKind.GenericAlias = true
 is-generic DefinitionKind.Trait = false
 is-generic DefinitionKind.Implementation = false
 is-generic DefinitionKind.Unknown = false
-
--- a type expression as the words hold it: its run from `at` up to n
-pub record Expr-stands (names : ℕ) (ws : List ℕ) (e : TypeExpr) (at n : ℕ) : Type 0 where
-  pub run-at : Stands ws (expr-run e) at n
-  pub stored : StoredExpr names e
 
 -- r is no alias, or this one: its parameter, and where its target stands
 abbrev pub IsAlias : ℕ → List ℕ → Alias → Option (Param TypeExpr) → Type 0

@@ -2,12 +2,12 @@
 use layout::Layout;
 use rules::ids::NameId;
 use rules::kinds::DefinitionKind;
-ghost use Prim.Native.Nat.{ℕ, _<_};
+ghost use Prim.Native.Nat.{_<_};
 ghost use mathlib.Core.Path.{_≡_};
 ghost use mathlib.Core.Bool.{false};
 ghost use Rattle.rules.specs.Syntax.{CompiledSchema, GenericAliasDef};
 ghost use Rattle.rules.specs.ReadDefinitions.{generic-alias};
-ghost use Rattle.rules.specs.Substitute.{one-parameter, lookup-alias};
+ghost use Rattle.rules.specs.Substitute.{lookup-alias};
 ghost use Rattle.layout.specs.Rows.{Inside};
 ghost use Rattle.layout.specs.Open.{Open, Stored, pool-words};
 ghost use Rattle.lookups.specs.Aliases.{is-generic, IsAlias, alias-of};

@@ -3,8 +3,9 @@ use held::types::HeldType;
 use held::types::MaybeType;
 use layout::Layout;
 use rules::ids::NameId;
+use rules::ids::PrimitiveType;
 use rules::ids::TypeId;
-ghost use Prim.Native.Nat.{ℕ, _<_};
+ghost use Prim.Native.Nat.{_<_};
 ghost use mathlib.Core.Path.{_≡_};
 ghost use mathlib.Core.List.{List};
 ghost use mathlib.Core.Option.{Option};
@@ -17,12 +18,15 @@ ghost use Rattle.layout.specs.Open.{Open, AliasStands, pool-words};
 ghost use Rattle.held.specs.Holds.{Holds, MaybeHolds};
 ghost use Rattle.scope.specs.Views.{Views};
 
+// The place of an alias that is not there.
+const NOWHERE: u32 = 4294967295;
+
 // The number of a Named alias, else NONE.
 fn alias_number(image: &[u8], l: Layout, start: u32) -> TypeId
     requires { ⌜ Inside (now image) l ⌝ }
     ensures { λ r. ⌜ ((o : Option ResolvedType) → AliasStands (l .names .rows) (pool-words (now (image .entry)) l) start o → r .0 ≡ or (then o number) NONE) ⌝ }
 {
-    if start == 4294967295 {
+    if start == NOWHERE {
         return TypeId::NONE;
     }
     let pool = l.pool;
@@ -40,7 +44,7 @@ pub fn lookup(image: &[u8], l: Layout, x: NameId) -> TypeId
 {
     let row = layout::name_row(image, l, x);
     let d = row.definition;
-    if d.0 != 4294967295 {
+    if d.0 != TypeId::NONE.0 {
         return d;
     }
     alias_number(image, l, row.alias)
@@ -53,12 +57,12 @@ pub fn lookup_primitive_alias(image: &[u8], l: Layout, x: NameId) -> MaybeType
 {
     let row = layout::name_row(image, l, x);
     let start = row.alias;
-    if start == 4294967295 {
+    if start == NOWHERE {
         return MaybeType::none();
     }
     let pool = l.pool;
     let code = reading::section_word(image, pool, start as usize);
-    if code < 14 {
+    if code <= PrimitiveType::VOID {
         return MaybeType::some(HeldType::plain(code));
     }
     MaybeType::none()
@@ -73,12 +77,13 @@ pub fn resolve_name(image: &[u8], l: Layout, params: &[u32], x: NameId) -> HeldT
     if a.some {
         return a.ty;
     }
-    let d = lookup(image, l, x);
+    let named = HeldType::named(lookup(image, l, x));
     let p = lookup_primitive_alias(image, l, x);
+    let primitive = p.ty;
     if p.some {
-        return p.ty;
+        return primitive;
     }
-    HeldType::named(d)
+    named
 }
 
 // The definition or the Named alias of the name with the text namespace, ".", name; else poison.
@@ -95,7 +100,7 @@ pub fn resolve_qualified(image: &[u8], l: Layout, namespace: NameId, x: NameId) 
         namespace,
         x,
     );
-    if row.0 == 4294967295 {
+    if row.0 == NameId::NONE.0 {
         return HeldType::named(TypeId::POISON);
     }
     HeldType::named(lookup(image, l, row))

@@ -1,20 +1,24 @@
-// Type parameters in view with their arguments: a lent table, a row of 66 words for each.
+// Type parameters in view with their arguments: a lent table, a row for each.
 use held::types::HeldType;
 use held::types::MaybeType;
 use rules::ids::NameId;
-ghost use Prim.Native.Nat.{ℕ, _+_, _≤_};
+ghost use Prim.Native.Nat.{ℕ, _+_, _*_, _≤_};
+ghost use mathlib.Core.Path.{_≡_};
 ghost use mathlib.Core.List.{List};
-ghost use lib.ListN.{length};
+ghost use lib.ListN.{length, take};
 ghost use Rattle.rules.specs.Syntax.{ResolvedType, Param};
 ghost use Rattle.rules.specs.Substitute.{find-param};
 ghost use Rattle.held.specs.Holds.{Holds, MaybeHolds};
 ghost use Rattle.scope.specs.Views.{Row, Views, Written};
 
+// A row: the parameter's name, the count of its argument's words, and 64 words.
+pub const ROW: usize = 66;
+
 // The argument that a row holds.
 fn argument(table: &[u32], at: usize) -> HeldType
     ensures { λ r. ⌜ ((names : ℕ) (p : Param ResolvedType) → Row names (now (table .entry)) at p → Holds names r (p .ty)) ⌝ }
 {
-    if reading::less(table.len(), at) < 66 {
+    if reading::less(table.len(), at) < ROW {
         return HeldType::empty();
     }
     let n = table[at + 1] as usize;
@@ -39,7 +43,7 @@ pub fn find_param(table: &[u32], x: NameId) -> MaybeType
         if table[at] == x.0 {
             return MaybeType::some(argument(table, at));
         }
-        at += 66;
+        at += ROW;
     }
     MaybeType::none()
 }
@@ -58,4 +62,13 @@ pub fn write_row(table: &mut [u32], at: usize, name: NameId, ty: HeldType)
         table[at + 2 + i] = words[i];
         i += 1;
     }
+}
+
+// The first n rows of a table.
+pub fn rows(table: &[u32], n: usize) -> &[u32]
+    requires { ⌜ 66 * n ≤ length (now table) ⌝ }
+    ensures { λ r. ⌜ now r ≡ take (66 * n) (now (table .entry)) ⌝ }
+{
+    let end = ROW * n;
+    &table[..end]
 }

@@ -2,9 +2,8 @@
 use held::types::HeldType;
 use layout::Layout;
 use reading::Section;
-ghost use Prim.Native.Nat.{_≤_};
+ghost use Prim.Native.Nat.{ℕ, _≤_};
 ghost use mathlib.Core.List.{List};
-ghost use Prim.Native.Nat.{ℕ};
 ghost use lib.ListN.{length};
 ghost use Rattle.reading.specs.Verdict.{section-words, Lies};
 ghost use Rattle.reading.specs.Stands.{Stands};

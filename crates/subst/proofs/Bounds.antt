@@ -11,9 +11,9 @@ use Rattle.laws.specs.Visits.{cut, plain-depth, compared-once}
 use Rattle.laws.specs.Depth.{resolves}
 use Rattle.held.specs.declared.types.HeldType.{HeldType}
 use Rattle.held.specs.Holds.{Holds}
-use Rattle.subst.specs.declared.leaves.Resolved.{Resolved}
+use Rattle.subst_leaves.specs.declared.Resolved.{Resolved}
 use Rattle.subst.specs.declared.whole.Substituted.{Substituted}
-use Rattle.subst.specs.Says.{Fails, Says}
+use Rattle.subst_leaves.specs.Says.{Fails, Says}
 use Rattle.subst.specs.Answers.{Answers}
 
 -- what passes a bound is too large

@@ -1,10 +1,11 @@
 -- A generic name that is no alias, and one that is. Assumes nothing.
 use Prim.Native.Nat.{ℕ, suc, _+_}
-use mathlib.Core.Path.{_≡_, refl, sym, ap, subst, _∙_}
+use mathlib.Core.Path.{_≡_, refl, sym, ap, subst₂, _∙_}
 use mathlib.Core.Bool.{true, false}
 use mathlib.Core.List.{List, [], _∷_}
 use mathlib.Core.Option.{Option, none, some}
-use lib.ListN.{length}
+use native.Mathlib.Omega.{arith}
+use lib.ListN.{length, take}
 use Rattle.rules.specs.Syntax.{ResolvedType, TypeExpr, Param, CompiledSchema}
 use Rattle.rules.specs.Types.{POISON}
 use Rattle.rules.specs.Substitute.{after, lookup-alias}
@@ -12,9 +13,11 @@ use Rattle.laws.specs.Visits.{Rec, short, plain-expand, plain-node}
 use Rattle.reading.specs.Steps.{true-false}
 use Rattle.held.specs.declared.types.HeldType.{HeldType}
 use Rattle.held.specs.Holds.{Holds}
-use Rattle.scope.specs.Views.{Row, Views, Written}
+use Rattle.scope.specs.Views.{Views, Written}
+use Rattle.scope.specs.Tables.{Rows-to, rows-more, views-taken}
 use Rattle.lookups.specs.declared.generic.Alias.{Alias}
-use Rattle.lookups.specs.Aliases.{Expr-stands, IsAlias}
+use Rattle.stored.specs.Held.{Expr-stands}
+use Rattle.lookups.specs.Aliases.{IsAlias}
 
 module _ (s : CompiledSchema) (rec : Rec) (ps : List (Param ResolvedType)) (x : ℕ) (a : TypeExpr) where
   pub is-poison : lookup-alias s x ≡ none → plain-node s rec ps (TypeExpr.generic x a) ≡ short 1 POISON
@@ -44,7 +47,9 @@ module _ (names : ℕ) (ws : List ℕ) (r : Alias) where
   an-alias (some p) h e = record { param = p; is = refl; name = h .1; end = h .2; target = h .3 }
 
 -- a table of one row is this parameter alone
-pub one-view : (names : ℕ) (before after : List ℕ) (x y : ℕ) (h : HeldType) (t : ResolvedType) → Written before after 0 x h → length before ≡ 66 → x ≡ y → Holds names h t
-    → Views names after 0 (record { name = y; ty = t } ∷ [])
-one-view names before after x y h t w size e p =
-    (subst (λ (n : ℕ). Row names after 0 (record { name = n; ty = t })) e (w .row names t p), w .size ∙ size)
+pub one-view : (names : ℕ) (before after view : List ℕ) (x y : ℕ) (h : HeldType) (t : ResolvedType) → Written before after 0 x h → length before ≡ 66 → view ≡ take 66 after → x ≡ y → Holds names h t
+    → Views names view 0 (record { name = y; ty = t } ∷ [])
+one-view names before after view x y h t w size e name p =
+    let r : Rows-to names after 66 0 (record { name = x; ty = t } ∷ []) = rows-more names before after 0 x h w t p 0 [] refl in
+    let v = views-taken names after 66 (omega (arith, w .size, size)) 0 (record { name = x; ty = t } ∷ []) r in
+    subst₂ (λ (l : List ℕ) (n : ℕ). Views names l 0 (record { name = n; ty = t } ∷ [])) (sym e) name v

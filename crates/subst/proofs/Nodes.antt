@@ -17,11 +17,11 @@ use Rattle.layout.specs.declared.Layout.{Layout}
 use Rattle.layout.specs.Open.{pool-words}
 use Rattle.stored.specs.Heads.{expr-head, expr-inside}
 use Rattle.pool_type_exprs.specs.TypeExprAt.{expr-shape}
-use Rattle.subst.specs.declared.leaves.Resolved.{Resolved}
-use Rattle.subst.specs.Says.{Fails, Says}
-use Rattle.subst.specs.Nodes.{At, Each, Substitutes, Leaves, Names, Qualifieds, Ones, Fixeds, Twos, Generics}
-use Rattle.subst.proofs.Steps.{says-no}
-use Rattle.subst.proofs.Parts.{Form, form}
+use Rattle.subst_leaves.specs.declared.Resolved.{Resolved}
+use Rattle.subst_leaves.specs.Says.{Fails, Says}
+use Rattle.subst_leaves.specs.Nodes.{At, Each, Substitutes, Leaves, Names, Qualifieds, Ones, Fixeds, Twos, Generics}
+use Rattle.subst_leaves.proofs.Steps.{says-no}
+use Rattle.subst_leaves.proofs.Parts.{Form, form}
 
 -- with no visit left nothing is done
 fails-none : (s : CompiledSchema) (f : ℕ) (ps : List (Param ResolvedType)) (e : TypeExpr) → Fails 0 (plain-depth s f ps e)

@@ -9,7 +9,7 @@ use Rattle.layout.specs.declared.Layout.{Layout}
 use Rattle.layout.specs.Open.{Open, pool-words}
 use Rattle.held.specs.Holds.{Holds}
 use Rattle.scope.specs.Views.{Views}
-use Rattle.lookups.specs.Aliases.{Expr-stands}
+use Rattle.stored.specs.Held.{Expr-stands}
 use Rattle.subst.specs.declared.whole.Substituted.{Substituted}
 
 abbrev pub Answers : ℕ → ℕ → Counted ResolvedType → Substituted → Type 0

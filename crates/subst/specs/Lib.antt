@@ -1,3 +1,1 @@
-pub mod Says
-pub mod Nodes
 pub mod Answers

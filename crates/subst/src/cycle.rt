@@ -1,14 +1,14 @@
 // Nodes with parts: the resolver and the expander of generic aliases, which call each other. The visits left fall with each node read.
-use crate::leaves::Resolved;
-use crate::leaves::failed;
 use held::types::HeldType;
 use layout::Layout;
+use subst_leaves::Resolved;
+use subst_leaves::failed;
 use rules::ids::NameId;
 use rules::kinds::TypeKind;
-ghost use Prim.Native.Nat.{ℕ, _≤_, _<_};
+ghost use Prim.Native.Nat.{_<_};
 ghost use Rattle.layout.specs.Rows.{Cut};
-ghost use Rattle.subst.specs.Says.{Keeps};
-ghost use Rattle.subst.specs.Nodes.{Substitutes, Ones, Fixeds, Twos, Generics};
+ghost use Rattle.subst_leaves.specs.Says.{Keeps};
+ghost use Rattle.subst_leaves.specs.Nodes.{Substitutes, Ones, Fixeds, Twos, Generics};
 
 // A code and one part.
 fn one(image: &[u8], l: Layout, at: usize, left: u32, params: &[u32]) -> Resolved
@@ -91,18 +91,19 @@ fn expand(image: &[u8], l: Layout, at: usize, left: u32, params: &[u32]) -> Reso
     let x = NameId(reading::section_word(image, pool, at + 1));
     let alias = lookups::generic::lookup_alias(image, l, x);
     if !alias.some {
-        return crate::leaves::poison(image, l, at + 1 + 1, left);
+        return subst_leaves::poison(image, l, at + 1 + 1, left);
     }
     let a = substitute_type(image, l, at + 1 + 1, left, params);
     if !a.ok {
         return a;
     }
     let argument = a.ty;
-    let mut own = [0u32; 66];
+    let mut own = [0u32; scope::ROW];
     scope::write_row(&mut own, 0, alias.param, argument);
+    let view = scope::rows(&own, 1);
     let target = alias.target;
     let rest = a.left;
-    let b = substitute_type(image, l, target, rest, &own);
+    let b = substitute_type(image, l, target, rest, view);
     let ty = b.ty;
     Resolved {
         ok: b.ok,
@@ -125,11 +126,11 @@ pub fn substitute_type(image: &[u8], l: Layout, at: usize, left: u32, params: &[
     }
     let k = kinds::type_kind(reading::section_word(image, pool, at));
     match k {
-        TypeKind::Plain => crate::leaves::leaf(image, l, at, left - 1),
-        TypeKind::Sub => crate::leaves::leaf(image, l, at, left - 1),
-        TypeKind::Bits => crate::leaves::leaf(image, l, at, left - 1),
-        TypeKind::Named => crate::leaves::named(image, l, at, left - 1, params),
-        TypeKind::Qualified => crate::leaves::qualified(image, l, at, left - 1),
+        TypeKind::Plain => subst_leaves::leaf(image, l, at, left - 1),
+        TypeKind::Sub => subst_leaves::leaf(image, l, at, left - 1),
+        TypeKind::Bits => subst_leaves::leaf(image, l, at, left - 1),
+        TypeKind::Named => subst_leaves::named(image, l, at, left - 1, params),
+        TypeKind::Qualified => subst_leaves::qualified(image, l, at, left - 1),
         TypeKind::Generic => expand(image, l, at, left - 1, params),
         TypeKind::One => one(image, l, at, left - 1, params),
         TypeKind::Fixed => fixed(image, l, at, left - 1, params),

@@ -34,7 +34,7 @@ returns-2 c s o h =
     let st = subst (λ (k : ℕ). AliasStands (a .l .names .rows) ws k (n .0 .alias)) (sym (c .before .before .before .before .before .before .name-row .ensures .alias)) (n .2 .alias) in
     let e : c .before .before .before .section-word .result ≡ getD ws at 0 = c .before .before .before .section-word .ensures in
     let q = primitive-alias o (a .x .0) h ∙ some-alias (a .l .names .rows) ws at primitive (some (ResolvedType.plain (getD ws at 0))) (n .0 .alias) st (c .before .before .before .before .before .if1 .left) (λ t m w g. primitive-type (a .l .names .rows) ws at m t w g (omega (arith, (c .before .before .if2 .taken), e))) in
-    let p = plain-holds (a .l .names .rows) (c .before .plain .ensures) (primitive-in _ (c .before .before .if2 .taken)) in
+    let p = plain-holds (a .l .names .rows) (c .before .plain .ensures) (primitive-in (c .before .before .before .section-word .result) (omega (arith, (c .before .before .if2 .taken)))) in
     subst (MaybeHolds (a .l .names .rows) (c .some .result)) (sym (q ∙ ap (λ (x : ℕ). some (ResolvedType.plain x)) (sym e)))
     (c .some .ensures .0, subst (λ (k : HeldType). Holds (a .l .names .rows) k (ResolvedType.plain (c .before .before .before .section-word .result))) (sym (c .some .ensures .1)) p)
 

@@ -20,7 +20,7 @@ use Rattle.subst.proofs.cycle.+expand+fixed+one+substitute_type+two.Lts
 use Rattle.subst.proofs.cycle.+expand+fixed+one+substitute_type+two.{statement}
 use Rattle.subst.proofs.cycle.+expand+fixed+one+substitute_type+two.Tie.{close}
 use Rattle.subst.proofs.cycle.+expand+fixed+one+substitute_type+two.Proof.Setup.{μ-expand, expand-at, expand-calls, μ-fixed, fixed-at, fixed-calls, μ-one, one-at, one-calls, μ-substitute-type, substitute-type-at, substitute-type-calls, μ-two, two-at, two-calls}
-use Rattle.subst.proofs.cycle.+expand+fixed+one+substitute_type+two.Proof.Expand-needs.{expand-returns, expand-returns-2, expand-returns-3}
+use Rattle.subst.proofs.cycle.+expand+fixed+one+substitute_type+two.Proof.Expand-needs.{expand-returns, expand-returns-2, expand-substitute-type-requires-2, expand-returns-3}
 use Rattle.subst.proofs.cycle.+expand+fixed+one+substitute_type+two.Proof.Fixed-needs.{fixed-returns, fixed-returns-2}
 use Rattle.subst.proofs.cycle.+expand+fixed+one+substitute_type+two.Proof.One-needs.{one-returns, one-returns-2}
 use Rattle.subst.proofs.cycle.+expand+fixed+one+substitute_type+two.Proof.SubstituteType-needs.{substitute-type-returns, substitute-type-returns-2, substitute-type-returns-3, substitute-type-returns-4, substitute-type-returns-5, substitute-type-returns-6, substitute-type-returns-7, substitute-type-returns-8, substitute-type-returns-9, substitute-type-returns-10, substitute-type-returns-11, substitute-type-returns-12}
@@ -45,6 +45,7 @@ pub +expand+fixed+one+substitute-type+two-spec : {M : Type 1} → statement M
     (λ c κs. search needs)
     (λ c. search needs)
     (λ c κs. search needs)
+    (expand-substitute-type-requires-2 t)
     (expand-returns-3 t))
     (λ t. fixed-lts.spec (fixed-calls t) (fixed-at t)
     fixed.Post

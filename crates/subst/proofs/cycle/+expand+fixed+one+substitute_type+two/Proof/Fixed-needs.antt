@@ -7,8 +7,8 @@ use Rattle.rules.specs.Syntax.{ResolvedType}
 use Rattle.laws.specs.Visits.{plain-node, plain-depth}
 use Rattle.held.specs.Runs.{held-run, Grows}
 use Rattle.held.proofs.Trees.{fixed-built}
-use Rattle.subst.proofs.Parts.{fixed-stands}
-use Rattle.subst.proofs.Steps.{one-stop, one-end}
+use Rattle.subst_leaves.proofs.Parts.{fixed-stands}
+use Rattle.subst_leaves.proofs.Steps.{one-stop, one-end}
 use Rattle.subst.proofs.cycle.fixed.Reads as fixed
 use Rattle.subst.proofs.cycle.+expand+fixed+one+substitute_type+two.Lts-fixed as fixed-lts
 use Rattle.subst.proofs.cycle.+expand+fixed+one+substitute_type+two.Proof.Setup.{fixed-at, fixed-calls}

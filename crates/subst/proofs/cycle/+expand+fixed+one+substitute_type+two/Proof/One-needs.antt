@@ -7,8 +7,8 @@ use Rattle.rules.specs.Syntax.{ResolvedType}
 use Rattle.laws.specs.Visits.{plain-node, plain-depth}
 use Rattle.held.specs.Runs.{held-run, Grows}
 use Rattle.held.proofs.Trees.{one-built}
-use Rattle.subst.proofs.Parts.{one-stands}
-use Rattle.subst.proofs.Steps.{one-stop, one-end}
+use Rattle.subst_leaves.proofs.Parts.{one-stands}
+use Rattle.subst_leaves.proofs.Steps.{one-stop, one-end}
 use Rattle.subst.proofs.cycle.one.Reads as one
 use Rattle.subst.proofs.cycle.+expand+fixed+one+substitute_type+two.Lts-one as one-lts
 use Rattle.subst.proofs.cycle.+expand+fixed+one+substitute_type+two.Proof.Setup.{one-at, one-calls}

@@ -8,7 +8,13 @@ use Rattle.held.proofs.types.HeldType.two.Reads as two-reads
 use Rattle.kinds.proofs.type_kind.Reads as type-kind-reads
 use Rattle.lookups.proofs.generic.lookup_alias.Reads as lookup-alias-reads
 use Rattle.reading.proofs.section_word.Reads as section-word-reads
+use Rattle.scope.proofs.rows.Reads as rows-reads
 use Rattle.scope.proofs.write_row.Reads as write-row-reads
+use Rattle.subst_leaves.proofs.failed.Reads as failed-reads
+use Rattle.subst_leaves.proofs.leaf.Reads as leaf-reads
+use Rattle.subst_leaves.proofs.named.Reads as named-reads
+use Rattle.subst_leaves.proofs.poison.Reads as poison-reads
+use Rattle.subst_leaves.proofs.qualified.Reads as qualified-reads
 use Rattle.subst.proofs.cycle.expand.Reads as expand
 use Rattle.subst.proofs.cycle.expand.Kinds as expand-kinds
 use Rattle.subst.proofs.cycle.+expand+fixed+one+substitute_type+two.Lts-expand as expand-lts
@@ -24,11 +30,6 @@ use Rattle.subst.proofs.cycle.+expand+fixed+one+substitute_type+two.Lts
 use Rattle.subst.proofs.cycle.two.Reads as two
 use Rattle.subst.proofs.cycle.two.Kinds as two-kinds
 use Rattle.subst.proofs.cycle.+expand+fixed+one+substitute_type+two.Lts-two as two-lts
-use Rattle.subst.proofs.leaves.failed.Reads as failed-reads
-use Rattle.subst.proofs.leaves.leaf.Reads as leaf-reads
-use Rattle.subst.proofs.leaves.named.Reads as named-reads
-use Rattle.subst.proofs.leaves.poison.Reads as poison-reads
-use Rattle.subst.proofs.leaves.qualified.Reads as qualified-reads
 
 abbrev pub μ-expand : Measures 2 expand-kinds.ps ℕ
 μ-expand κs a = a .1 .1 .1 .0 + a .1 .1 .1 .0 + 1
@@ -87,7 +88,7 @@ two-below t = and 2 two-kinds.ps (falls 2 two-kinds.ps _<_ μ-two t) two.Pre
 
 -- what expand knows of the functions that it calls
 abbrev pub expand-calls : ℕ → expand-lts.Claims
-expand-calls t = (section-word-reads.Asked, section-word-reads.Learnt, lookup-alias-reads.Asked, lookup-alias-reads.Learnt, poison-reads.Asked, poison-reads.Learnt, substitute-type-below t, substitute-type.Post, write-row-reads.Asked, write-row-reads.Learnt)
+expand-calls t = (section-word-reads.Asked, section-word-reads.Learnt, lookup-alias-reads.Asked, lookup-alias-reads.Learnt, poison-reads.Asked, poison-reads.Learnt, substitute-type-below t, substitute-type.Post, write-row-reads.Asked, write-row-reads.Learnt, rows-reads.Asked, rows-reads.Learnt)
 
 -- what fixed knows of the functions that it calls
 abbrev pub fixed-calls : ℕ → fixed-lts.Claims

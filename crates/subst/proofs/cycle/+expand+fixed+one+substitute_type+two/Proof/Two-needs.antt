@@ -9,9 +9,9 @@ use Rattle.laws.specs.Visits.{plain-node, plain-depth}
 use Rattle.layout.specs.Open.{pool-words}
 use Rattle.held.specs.Runs.{held-run, Grows}
 use Rattle.held.proofs.Trees.{two-built}
-use Rattle.lookups.specs.Aliases.{Expr-stands}
-use Rattle.subst.proofs.Parts.{two-stands}
-use Rattle.subst.proofs.Steps.{two-stop, two-stop-second, two-end}
+use Rattle.stored.specs.Held.{Expr-stands}
+use Rattle.subst_leaves.proofs.Parts.{two-stands}
+use Rattle.subst_leaves.proofs.Steps.{two-stop, two-stop-second, two-end}
 use Rattle.subst.proofs.cycle.two.Reads as two
 use Rattle.subst.proofs.cycle.+expand+fixed+one+substitute_type+two.Lts-two as two-lts
 use Rattle.subst.proofs.cycle.+expand+fixed+one+substitute_type+two.Proof.Setup.{two-at, two-calls}

@@ -1,14 +1,14 @@
--- `subst::leaves::qualified` meets its contract. Assumes nothing.
+-- `subst_leaves::qualified` meets its contract. Assumes nothing.
 use Prim.Native.Nat.{ℕ}
 use mathlib.Core.Path.{_≡_, refl, subst₂, _∙_}
 use native.Mathlib.Omega.{arith}
 use borrow.Author.Needs.{needs}
 use Rattle.rules.specs.Substitute.{lookup-qualified, named-or-poison}
 use Rattle.held.specs.Holds.{Holds}
-use Rattle.subst.proofs.Parts.{qualified-stands}
-use Rattle.subst.proofs.Steps.{one-visit}
-use Rattle.subst.proofs.leaves.qualified.Statement.{statement}
-use Rattle.subst.proofs.leaves.qualified.Tie as tie
+use Rattle.subst_leaves.proofs.Parts.{qualified-stands}
+use Rattle.subst_leaves.proofs.Steps.{one-visit}
+use Rattle.subst_leaves.proofs.qualified.Statement.{statement}
+use Rattle.subst_leaves.proofs.qualified.Tie as tie
 
 returns : tie.Need-returns
 returns c = let a = c .before .before .before .before .before .args in

@@ -3,12 +3,12 @@ use held::types::HeldType;
 use layout::Layout;
 use rules::ids::NameId;
 use rules::ids::TypeId;
-ghost use Prim.Native.Nat.{ℕ, _≤_, _<_};
+ghost use Prim.Native.Nat.{_<_};
 ghost use mathlib.Core.Path.{_≡_};
 ghost use mathlib.Core.Bool.{false};
 ghost use Rattle.layout.specs.Rows.{Inside, Cut};
-ghost use Rattle.subst.specs.Says.{Keeps};
-ghost use Rattle.subst.specs.Nodes.{Leaves, Names, Qualifieds, Poisons};
+ghost use Rattle.subst_leaves.specs.Says.{Keeps};
+ghost use Rattle.subst_leaves.specs.Nodes.{Leaves, Names, Qualifieds, Poisons};
 
 // What resolving comes to: whether it keeps the bounds, the place behind the expression, the visits left, the type.
 pub struct Resolved {
@@ -82,7 +82,7 @@ pub fn poison(image: &[u8], l: Layout, at: usize, left: u32) -> Resolved
     let names = l.names;
     let c = pool_type_exprs::check_type_expr(image, pool, at, names.rows);
     Resolved {
-        ok: true,
+        ok: true, // whatever the argument would come to
         next: c.next,
         left,
         ty: HeldType::named(TypeId::POISON),

@@ -5,7 +5,7 @@ use mathlib.Core.Bool.{true, false}
 use Rattle.rules.specs.Syntax.{ResolvedType}
 use Rattle.rules.specs.Substitute.{Counted, too-large, done}
 use Rattle.held.specs.Holds.{Holds}
-use Rattle.subst.specs.declared.leaves.Resolved.{Resolved}
+use Rattle.subst_leaves.specs.declared.Resolved.{Resolved}
 
 -- o passes a bound: a run on the way is too long, or the visits are more than are left
 abbrev pub Fails : ℕ → Counted ResolvedType → Type 0

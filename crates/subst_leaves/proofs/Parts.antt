@@ -12,7 +12,7 @@ use Rattle.laws.specs.Types.{Stored}
 use Rattle.reading.specs.Stands.{Stands}
 use Rattle.pool_type_exprs.specs.TypeExprAt.{expr-shape}
 use Rattle.stored.specs.Heads.{head, tail, first, second}
-use Rattle.lookups.specs.Aliases.{Expr-stands}
+use Rattle.stored.specs.Held.{Expr-stands}
 
 module _ (names : ℕ) (ws : List ℕ) (at n : ℕ) where
   -- a name

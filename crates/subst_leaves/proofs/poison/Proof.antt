@@ -1,4 +1,4 @@
--- `subst::leaves::poison` meets its contract. Assumes nothing.
+-- `subst_leaves::poison` meets its contract. Assumes nothing.
 use mathlib.Core.Path.{refl}
 use native.Mathlib.Omega.{arith}
 use borrow.Author.Needs.{needs}
@@ -6,9 +6,9 @@ use Rattle.rules.specs.Types.{POISON}
 use Rattle.laws.specs.TypeExprs.{type-expr-exact}
 use Rattle.held.proofs.Trees.{named-holds}
 use Rattle.stored.specs.Behind.{behind}
-use Rattle.subst.proofs.Steps.{one-visit}
-use Rattle.subst.proofs.leaves.poison.Statement.{statement}
-use Rattle.subst.proofs.leaves.poison.Tie as tie
+use Rattle.subst_leaves.proofs.Steps.{one-visit}
+use Rattle.subst_leaves.proofs.poison.Statement.{statement}
+use Rattle.subst_leaves.proofs.poison.Tie as tie
 
 returns : tie.Need-returns
 returns c = let a = c .before .before .before .before .before .args in

@@ -13,15 +13,12 @@ use Rattle.reading.specs.Steps.{true-false}
 use Rattle.held.specs.declared.types.HeldType.{HeldType}
 use Rattle.held.specs.declared.types.Grown.{Grown}
 use Rattle.held.specs.Holds.{Holds, Built}
-use Rattle.subst.specs.declared.leaves.Resolved.{Resolved}
-use Rattle.subst.specs.Says.{Fails, Accepts, Says}
+use Rattle.subst_leaves.specs.declared.Resolved.{Resolved}
+use Rattle.subst_leaves.specs.Says.{Fails, Says}
 
--- not ok, and o passes a bound; ok, and the rest is as it should be
+-- not ok, and o passes a bound
 pub says-no : (names left n : ℕ) (o : Counted ResolvedType) (r : Resolved) → r .ok ≡ false → Fails left o → Says names left n o r
 says-no names left n o r e w = record { ok = λ z. absurd (true-false (sym z ∙ e)); no = λ _. w }
-
-pub says-ok : (names left n : ℕ) (o : Counted ResolvedType) (r : Resolved) → r .ok ≡ true → Accepts names left n o r → Says names left n o r
-says-ok names left n o r e a = record { ok = λ _. a; no = λ z. absurd (true-false (sym e ∙ z)) }
 
 -- of an outcome that is the same
 pub says-as : {names left n : ℕ} {o q : Counted ResolvedType} {r : Resolved} → o ≡ q → Says names left n q r → Says names left n o r

@@ -1,11 +1,11 @@
--- `subst::leaves::leaf` meets its contract. Assumes nothing.
+-- `subst_leaves::leaf` meets its contract. Assumes nothing.
 use mathlib.Core.Path.{refl}
 use native.Mathlib.Omega.{arith}
 use borrow.Author.Needs.{needs}
-use Rattle.subst.proofs.Parts.{leaf-stands}
-use Rattle.subst.proofs.Steps.{one-visit}
-use Rattle.subst.proofs.leaves.leaf.Statement.{statement}
-use Rattle.subst.proofs.leaves.leaf.Tie as tie
+use Rattle.subst_leaves.proofs.Parts.{leaf-stands}
+use Rattle.subst_leaves.proofs.Steps.{one-visit}
+use Rattle.subst_leaves.proofs.leaf.Statement.{statement}
+use Rattle.subst_leaves.proofs.leaf.Tie as tie
 
 returns : tie.Need-returns
 returns c = let a = c .before .before .before .args in

@@ -1,14 +1,14 @@
--- `subst::leaves::named` meets its contract. Assumes nothing.
+-- `subst_leaves::named` meets its contract. Assumes nothing.
 use Prim.Native.Nat.{ℕ}
 use mathlib.Core.Path.{_≡_, refl, subst, _∙_}
 use native.Mathlib.Omega.{arith}
 use borrow.Author.Needs.{needs}
 use Rattle.rules.specs.Substitute.{resolve-name}
 use Rattle.held.specs.Holds.{Holds}
-use Rattle.subst.proofs.Parts.{named-stands}
-use Rattle.subst.proofs.Steps.{one-visit}
-use Rattle.subst.proofs.leaves.named.Statement.{statement}
-use Rattle.subst.proofs.leaves.named.Tie as tie
+use Rattle.subst_leaves.proofs.Parts.{named-stands}
+use Rattle.subst_leaves.proofs.Steps.{one-visit}
+use Rattle.subst_leaves.proofs.named.Statement.{statement}
+use Rattle.subst_leaves.proofs.named.Tie as tie
 
 returns : tie.Need-returns
 returns c = let a = c .before .before .before .before .before .args in

@@ -8,9 +8,9 @@ use Rattle.laws.specs.Visits.{short, plain-node, plain-depth}
 use Rattle.layout.specs.declared.Layout.{Layout}
 use Rattle.layout.specs.Open.{Open, pool-words}
 use Rattle.scope.specs.Views.{Views}
-use Rattle.lookups.specs.Aliases.{Expr-stands}
-use Rattle.subst.specs.declared.leaves.Resolved.{Resolved}
-use Rattle.subst.specs.Says.{Says}
+use Rattle.stored.specs.Held.{Expr-stands}
+use Rattle.subst_leaves.specs.declared.Resolved.{Resolved}
+use Rattle.subst_leaves.specs.Says.{Says}
 
 module _ (image : List ℕ) (l : Layout) (at left : ℕ) where
   -- e stands at `at` and ends before n
