@@ -12,7 +12,7 @@ const RUNS: usize = 21;
 /// Both images, each by three ways, as lines of text.
 pub fn times(library: Verdict) -> String {
     let mut lines = format!("1,024 names of 255 bytes, alike but for their ends: ms, best and median of {RUNS} runs\n");
-    for (label, end) in [("ends of one byte", End::OneByte), ("ends of one sum", End::SameSum)] {
+    for (label, end) in [("ends of one byte", End::OneByte), ("ends of no sum", End::NoSum)] {
         let image = alike(end, false);
         let (ours, middle) = time(library, &image);
         lines += &format!("{label}: library {ours:.3} {middle:.3}");

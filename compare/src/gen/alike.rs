@@ -8,20 +8,25 @@ const LENGTH: usize = 255;
 /// As many texts side by side as the rows leave room for.
 const TEXTS: usize = 192;
 
-/// What tells a text from the others.
+/// What tells a text from the others, among zeros.
 #[derive(Clone, Copy)]
 pub enum End {
     OneByte,
-    /// Sixteen bytes that a sum of bytes times powers of 31 does not tell apart.
-    SameSum,
+    /// Bytes whose sum, each times its power of 31, is 0 below 2^27: the number that the library compares first is the
+    /// same for all texts.
+    NoSum,
 }
 
 impl End {
     fn bytes(self, text: usize) -> Vec<u8> {
+        let first = text + 1;
         match self {
-            // Any byte but a.
-            End::OneByte => vec![(text + usize::from(text >= usize::from(b'a'))) as u8],
-            End::SameSum => (0..8).flat_map(|bit| if text >> bit & 1 == 0 { *b"Aa" } else { *b"BB" }).collect(),
+            End::OneByte => vec![first as u8],
+            End::NoSum => {
+                let rest = (1 << 27) - (first * 31usize.pow(6)) % (1 << 27);
+                let digits = (0..6).rev().map(|power| (rest / 31usize.pow(power) % 31) as u8);
+                std::iter::once(first as u8).chain(digits).collect()
+            }
         }
     }
 }
@@ -31,14 +36,14 @@ pub fn alike(end: End, twice: bool) -> Vec<u8> {
     let mut texts = vec![];
     for text in 0..TEXTS {
         let end = end.bytes(text);
-        texts.extend(vec![b'a'; LENGTH - end.len()]);
+        texts.extend(vec![0; LENGTH - end.len()]);
         texts.extend(end);
     }
-    // Each text again, a few bytes later.
-    let shifts = NAMES.div_ceil(TEXTS);
-    texts.extend(vec![b'a'; shifts - 1]);
+    // Each text is cut out several times, a byte later each time.
+    let shifts = 1..=NAMES.div_ceil(TEXTS);
+    texts.extend(shifts.clone().map(|_| 0));
     let mut starts: Vec<usize> =
-        (0..shifts).flat_map(|shift| (0..TEXTS).map(move |text| LENGTH * text + shift)).take(NAMES).collect();
+        shifts.flat_map(|shift| (0..TEXTS).map(move |text| LENGTH * text + shift)).take(NAMES).collect();
     if twice {
         starts[NAMES - 1] = starts[0];
     }
