@@ -7,7 +7,7 @@ use crate::gen::{alike, End};
 use crate::library::Verdict;
 use crate::second;
 
-const RUNS: usize = 21;
+const RUNS: usize = 11;
 
 /// Both images, each by three ways, as lines of text.
 pub fn times(library: Verdict) -> String {
