@@ -4,7 +4,7 @@ use std::rc::Rc;
 
 use oracle::{Cost, Loaded, Refused, Told};
 
-use crate::buffers::{Buffers, DETAIL_FILL, OUTPUT_FILL};
+use crate::buffers::{Buffers, Side, DETAIL_FILL, OUTPUT_FILL};
 use crate::case::{Case, Whole};
 use crate::child;
 use crate::second::{self, Answer, Call, DETAIL_BYTES, NONE};
@@ -30,7 +30,10 @@ pub struct Judged {
 
 #[derive(Default)]
 pub struct Judge {
+    /// By call, a side that must answer as the second reading does, and leave every byte of both buffers as it does.
+    pub beside: [Option<Side>; 2],
     buffers: Buffers,
+    others: Buffers,
     /// The last image's schema: several cases ask about one image.
     loaded: Option<(Rc<[u8]>, Result<Loaded, Refused>)>,
 }
@@ -47,6 +50,10 @@ impl Judge {
     /// Asks the second reading, and sees that it wrote no more than it may.
     fn ask(&mut self, case: &Case) -> Result<Whole, String> {
         let answer = self.buffers.ask(second::answer, case)?;
+        if let Some(side) = self.beside[case.call as usize] {
+            let other = self.others.ask(side, case)?;
+            same(&answer, &other, &self.buffers, &self.others)?;
+        }
         let written = if answer.number == 0 { answer.length as usize } else { 0 };
         let (output, rest) = self.buffers.output().split_at_checked(written).ok_or("a length past the lent output")?;
         if rest.iter().any(|byte| *byte != OUTPUT_FILL) {
@@ -125,6 +132,21 @@ impl Judge {
     }
 }
 
+/// All five fields, and every byte that was lent.
+fn same(answer: &Answer, other: &Answer, buffers: &Buffers, others: &Buffers) -> Result<(), String> {
+    if answer != other {
+        return Err(format!("a side beside says {other:?}, the second reading {answer:?}"));
+    }
+    for (what, left, right) in
+        [("output", buffers.output(), others.output()), ("detail", buffers.detail(), others.detail())]
+    {
+        if let Some(at) = left.iter().zip(right).position(|(one, other)| one != other) {
+            return Err(format!("a side beside leaves another byte in the {what}, at {at}"));
+        }
+    }
+    Ok(())
+}
+
 /// 8 at the first function that is too large, unless another refusal comes before; the visits of an accepted answer.
 fn counted(cost: &Cost, answer: &Answer) -> Result<(), String> {
     let first = cost.too_large();
@@ -169,13 +191,50 @@ mod tests {
     use super::*;
     use crate::gen;
 
+    /// Judges edges and random cases with a side beside both calls.
+    fn beside(side: Side) -> Result<(), String> {
+        let mut judge = Judge { beside: [Some(side); 2], ..Judge::default() };
+        for case in gen::edge_cases().chain(gen::Cases::new(5).take(3_000)) {
+            judge.judge(&case).map_err(|said| format!("{said}: {}", crate::text::question(&case)))?;
+        }
+        Ok(())
+    }
+
     #[test]
     fn edges_and_random_cases_agree() {
-        let mut judge = Judge::default();
-        for case in gen::edge_cases().chain(gen::Cases::new(5).take(3_000)) {
-            if let Err(said) = judge.judge(&case) {
-                panic!("{said}: {}", crate::text::question(&case));
-            }
+        beside(second::answer).unwrap();
+    }
+
+    #[test]
+    fn a_slip_of_a_side_beside_is_found() {
+        let slips: [(&str, Side); 4] = [
+            ("says", |call, image, row, output, detail| {
+                let answer = second::answer(call, image, row, output, detail);
+                Answer { visits: answer.visits.min(1_024), ..answer }
+            }),
+            ("output", |call, image, row, output, detail| {
+                let answer = second::answer(call, image, row, output, detail);
+                if answer.number == 24 {
+                    output.fill(0);
+                }
+                answer
+            }),
+            ("output", |call, image, row, output, detail| {
+                let answer = second::answer(call, image, row, output, detail);
+                if let (0, Some(behind)) = (answer.number, output.get_mut(answer.length as usize)) {
+                    *behind = 0;
+                }
+                answer
+            }),
+            ("detail", |call, image, row, output, detail| {
+                if let Some(last) = detail.get_mut(576) {
+                    *last = 0;
+                }
+                second::answer(call, image, row, output, detail)
+            }),
+        ];
+        for (what, slip) in slips {
+            assert!(beside(slip).is_err_and(|said| said.contains(what)));
         }
     }
 }

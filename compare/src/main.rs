@@ -1,4 +1,4 @@
-//! The original Rust beside a second reading of document 01, over seeded images.
+//! The original Rust and the proved library beside a second reading of document 01, over seeded images.
 
 mod buffers;
 mod case;
@@ -6,12 +6,15 @@ mod cases;
 mod child;
 mod gen;
 mod judge;
+mod library;
 mod options;
+mod readable;
 mod sample;
 mod second;
 mod sentence;
 mod table;
 mod text;
+mod worst;
 
 use std::path::Path;
 use std::process::ExitCode;
@@ -19,11 +22,14 @@ use std::time::Instant;
 
 use judge::Judge;
 use options::Options;
+use readable::Verdicts;
 use table::Table;
 
 const USAGE: &str = "\
 usage: compare/run SUBCOMMAND [OPTION ..]
   run     [--seed S] [--cases N]   every edge, then N cases from seed S, through both sides; prints a table
+  readable [--seed S] [--cases N]  every edge, then images from seed S, N in all: the library's verdict beside two
+                                   readings; a table, and times
   cyclic  [--seed S] [--cases N]   N cases that never end, each in a child process of the Rust
   text    [--seed S] [--cases N] [--max-image BYTES] [--large N]
                                    N cases as lines of text, balanced over numbers; the last of them large
@@ -69,6 +75,7 @@ fn command(words: &[String]) -> Result<(), Failure> {
     let options = |known: &[&str]| Options::parse(rest, known);
     match name.as_str() {
         "run" => run(&options(&["seed", "cases"])?),
+        "readable" => readable(&options(&["seed", "cases"])?),
         "cyclic" => cyclic(&options(&["seed", "cases"])?),
         "text" => lines(&options(&["seed", "cases", "max-image", "large", "from"])?),
         "vectors" => vectors(&options(&["seed", "to"])?),
@@ -91,6 +98,19 @@ fn run(options: &Options) -> Result<(), Failure> {
         Ok(())
     } else {
         Err(Failure::Differs("the sides differ".into()))
+    }
+}
+
+fn readable(options: &Options) -> Result<(), Failure> {
+    let library = library::READABLE.ok_or("this build is without the library; compare/run builds it".to_string())?;
+    let (seed, count) = (options.number("seed", 1)?, options.number("cases", 100_000)?);
+    let mut verdicts = Verdicts::new(library);
+    verdicts.judge(seed, count);
+    print!("seed {seed}\n{verdicts}{}", worst::times(library));
+    if verdicts.agree() {
+        Ok(())
+    } else {
+        Err(Failure::Differs("the verdicts differ".into()))
     }
 }
 

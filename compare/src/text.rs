@@ -59,7 +59,8 @@ fn words(bytes: &[u8]) -> String {
     bytes.chunks_exact(4).map(word).collect::<Vec<String>>().join(" ")
 }
 
-fn hex(bytes: &[u8]) -> String {
+/// Bytes in hexadecimal, `-` for none.
+pub fn hex(bytes: &[u8]) -> String {
     if bytes.is_empty() {
         return "-".into();
     }

@@ -1,9 +1,11 @@
 //! Seeded cases: images that are rich, at an edge or damaged, and calls on them with buffers around each boundary.
 
+mod alike;
 mod body;
 mod bounds;
 mod damage;
 mod edges;
+mod images;
 mod large;
 mod model;
 mod rich;
@@ -16,16 +18,12 @@ use std::rc::Rc;
 
 use crate::case::Case;
 use crate::second::{self, Answer, Call, DETAIL_BYTES};
-use bounds::BOUNDS;
+pub use alike::{alike, End};
 #[cfg(test)]
 pub use edges::whole_case;
 pub use edges::{edges, Edge};
-use model::Model;
+pub use images::{images, Source};
 use rng::Rng;
-
-/// Numbers that an image is aimed at. Some are also met on the way to others.
-const AIMS: [u32; 28] =
-    [0, 0, 0, 4, 5, 6, 6, 7, 7, 8, 8, 9, 10, 11, 12, 13, 14, 15, 16, 17, 18, 19, 20, 20, 21, 21, 22, 23];
 
 /// An endless supply of cases from one seed.
 pub struct Cases {
@@ -39,29 +37,8 @@ impl Cases {
     }
 
     fn refill(&mut self) {
-        let rng = &mut self.rng;
-        let kind = rng.below(100);
-        let aim = match kind {
-            0..8 => None,
-            8..14 => Some(0),
-            _ => Some(*rng.pick(&AIMS)),
-        };
-        let bulk = if rng.below(500) == 0 { rng.between(5, 60) } else { 0 };
-        let mut rich = rich::rich(rng, aim, bulk);
-        if (8..14).contains(&kind) {
-            let (_, bound) = rng.pick(&BOUNDS);
-            let past = rng.below(2);
-            bound(rng, &mut rich, past);
-        }
-        if rng.chance(1) {
-            other_texts(rng, &mut rich.model);
-        }
-        let mut image = if rng.chance(70) { rich.model.loose_image(rng) } else { rich.model.plain_image() };
-        if kind >= 88 {
-            damage::damage(rng, &mut image);
-        }
-        let rows = rich.model.defs.len() as u32;
-        ask(rng, image.into(), rich.row, rows, &mut self.waiting);
+        let made = images::make(&mut self.rng);
+        ask(&mut self.rng, made.image.into(), made.row, made.rows, &mut self.waiting);
     }
 }
 
@@ -73,15 +50,6 @@ impl Iterator for Cases {
             self.refill();
         }
         self.waiting.pop_front()
-    }
-}
-
-/// Texts that are not ASCII: 01 takes any bytes.
-fn other_texts(rng: &mut Rng, model: &mut Model) {
-    let name = rng.below(model.names.len());
-    model.names[name].text.push(128 + rng.below(128) as u8);
-    if let Some(text) = model.strings.first_mut() {
-        text.push(rng.next() as u8);
     }
 }
 

@@ -54,6 +54,11 @@ impl Refusal {
     }
 }
 
+/// Whether an image is readable.
+pub fn readable(image: &[u8]) -> bool {
+    image::read(image).is_some()
+}
+
 /// Answers a call; both buffers are written as 01 says and nowhere else.
 pub fn answer(call: Call, image: &[u8], row: u32, output: &mut [u8], detail: &mut [u8]) -> Answer {
     let refused = |number, length| Answer { number, function: NONE, second: NONE, length, visits: 0 };

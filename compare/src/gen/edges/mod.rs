@@ -2,6 +2,7 @@
 
 mod bodies;
 mod image;
+mod lone;
 mod traits;
 
 use super::bounds::BOUNDS;
@@ -9,6 +10,8 @@ use super::model::{assemble, Words, NONE};
 use super::rich::{implement, Rich};
 use super::rng::Rng;
 use super::tiny::{padded, tiny, with_body, IMPL, P, X};
+
+pub use lone::lone_bounds;
 
 pub struct Edge {
     pub label: String,

@@ -1,0 +1,84 @@
+//! Seeded images, each with where it comes from.
+
+use super::alike::{alike, End};
+use super::bounds::BOUNDS;
+use super::damage::damage;
+use super::edges::{edges, lone_bounds};
+use super::model::Model;
+use super::rich::rich;
+use super::rng::Rng;
+
+#[derive(Clone, Copy, PartialEq, Eq, PartialOrd, Ord)]
+pub enum Source {
+    /// Always the same.
+    Edge,
+    /// Always the same: as many names as can be, alike but for their ends.
+    Alike,
+    Rich,
+    /// Rich, with something at its bound or one past it.
+    Bound,
+    Damaged,
+}
+
+pub struct Made {
+    pub source: Source,
+    pub image: Vec<u8>,
+    /// The implementation that the image was made for.
+    pub row: u32,
+    /// The number of definitions.
+    pub rows: u32,
+}
+
+/// Numbers that an image is aimed at. Some are also met on the way to others.
+const AIMS: [u32; 28] =
+    [0, 0, 0, 4, 5, 6, 6, 7, 7, 8, 8, 9, 10, 11, 12, 13, 14, 15, 16, 17, 18, 19, 20, 20, 21, 21, 22, 23];
+
+pub fn make(rng: &mut Rng) -> Made {
+    let kind = rng.below(100);
+    let (source, aim) = match kind {
+        0..8 => (Source::Rich, None),
+        8..14 => (Source::Bound, Some(0)),
+        14..88 => (Source::Rich, Some(*rng.pick(&AIMS))),
+        _ => (Source::Damaged, Some(*rng.pick(&AIMS))),
+    };
+    let bulk = if rng.below(500) == 0 { rng.between(5, 60) } else { 0 };
+    let mut rich = rich(rng, aim, bulk);
+    if source == Source::Bound {
+        let (_, bound) = rng.pick(&BOUNDS);
+        let past = rng.below(2);
+        bound(rng, &mut rich, past);
+    }
+    if rng.chance(1) {
+        other_texts(rng, &mut rich.model);
+    }
+    let mut image = if rng.chance(70) { rich.model.loose_image(rng) } else { rich.model.plain_image() };
+    if source == Source::Damaged {
+        damage(rng, &mut image);
+    }
+    Made { source, image, row: rich.row, rows: rich.model.defs.len() as u32 }
+}
+
+/// Texts that are not ASCII: 01 takes any bytes.
+fn other_texts(rng: &mut Rng, model: &mut Model) {
+    let name = rng.below(model.names.len());
+    model.names[name].text.push(128 + rng.below(128) as u8);
+    if let Some(text) = model.strings.first_mut() {
+        text.push(rng.next() as u8);
+    }
+}
+
+/// Images without end: those that are always the same, then from a seed, each with a damaged copy of it and of an edge.
+pub fn images(seed: u64) -> impl Iterator<Item = (Source, Vec<u8>)> {
+    let edges: Vec<Vec<u8>> = edges().into_iter().chain(lone_bounds()).map(|edge| edge.image).collect();
+    let alikes = [End::OneByte, End::NoSum].into_iter().flat_map(|end| [false, true].map(|twice| alike(end, twice)));
+    let (mut rng, near) = (Rng::new(seed), edges.clone());
+    let seeded = std::iter::repeat_with(move || {
+        let made = make(&mut rng);
+        let (mut copy, mut edge) = (made.image.clone(), rng.pick(&near).clone());
+        damage(&mut rng, &mut copy);
+        damage(&mut rng, &mut edge);
+        [(made.source, made.image), (Source::Damaged, copy), (Source::Damaged, edge)]
+    });
+    let edges = edges.into_iter().map(|image| (Source::Edge, image));
+    edges.chain(alikes.map(|image| (Source::Alike, image))).chain(seeded.flatten())
+}
