@@ -1,0 +1,3 @@
+-- Laws of answers.
+pub mod Fields
+pub mod Details
