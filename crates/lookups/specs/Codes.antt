@@ -1,7 +1,7 @@
 -- An alias's first word tells whether it is Named or a primitive.
 use Prim.Native.Nat.{ℕ, _+_, _<_, _≤_}
 use mathlib.Core.Path.{_≡_, refl, sym, ap, _∙_}
-use mathlib.Core.Bool.{Bool, true, false, cond}
+use mathlib.Core.Bool.{Bool, cond}
 use mathlib.Core.List.{List}
 use mathlib.Core.Option.{Option, none, some}
 use native.Mathlib.Omega.{arith}
@@ -10,8 +10,7 @@ use lib.ListN.{getD}
 use Rattle.rules.specs.Words.{NONE}
 use Rattle.rules.specs.Syntax.{ResolvedType, run}
 use Rattle.rules.specs.Kinds.{type-kind}
-use Rattle.rules.specs.Options.{or, then}
-use Rattle.rules.specs.ReadTypes.{resolved-type}
+use Rattle.rules.specs.Options.{then}
 use Rattle.rules.specs.Substitute.{number, primitive}
 use Rattle.rules.specs.declared.kinds.TypeKind.{TypeKind}
 use Rattle.laws.specs.Types.{Stored}

@@ -1,7 +1,7 @@
 -- A generic alias in the pool, and a definition's row that is one.
 use Prim.Native.Nat.{ℕ, _+_, _<_, _≤_}
 use mathlib.Core.Path.{_≡_, refl, sym, ap, subst, _∙_}
-use mathlib.Core.Bool.{Bool, true, false}
+use mathlib.Core.Bool.{true, false}
 use mathlib.Core.List.{List, [], _∷_, _++_}
 use mathlib.Core.Option.{Option, none, some}
 use native.Mathlib.Omega.{arith}
@@ -9,11 +9,10 @@ use native.Mathlib.Decide.{decLe}
 use lib.ListN.{length, getD, getElem?}
 use Rattle.rules.specs.Words.{NONE}
 use Rattle.rules.specs.Options.{or, then}
-use Rattle.rules.specs.Syntax.{TypeExpr, expr-run, Param, TypeDef, GenericAliasDef, CompiledSchema}
+use Rattle.rules.specs.Syntax.{TypeExpr, expr-run, TypeDef, GenericAliasDef, CompiledSchema}
 use Rattle.rules.specs.ReadDefinitions.{generic-alias}
 use Rattle.rules.specs.Output.{each, listed}
 use Rattle.rules.specs.Substitute.{one-parameter, lookup, lookup-alias}
-use Rattle.rules.specs.declared.kinds.DefinitionKind.{DefinitionKind}
 use Rattle.laws.specs.DefinitionRuns.{own, generic-alias-words, GoodAlias}
 use Rattle.laws.specs.Definitions.{generic-alias-exact}
 use Rattle.reading.specs.Gives.{of}
@@ -25,7 +24,7 @@ use Rattle.layout.specs.Rows.{IsDefinitionRow}
 use Rattle.layout.specs.Open.{Open, Stored, DefinitionStands, pool-words}
 use Rattle.stored.specs.Heads.{head, tail}
 use Rattle.lookups.specs.declared.generic.Alias.{Alias}
-use Rattle.lookups.specs.Aliases.{is-generic, Expr-stands, IsAlias, alias-of}
+use Rattle.lookups.specs.Aliases.{is-generic, IsAlias, alias-of}
 use Rattle.lookups.specs.Names.{there, past}
 
 module _ (names : ℕ) (ws : List ℕ) (start : ℕ) (a : GenericAliasDef) (h : Stored (generic-alias names) ws start a) where

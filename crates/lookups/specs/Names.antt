@@ -1,17 +1,17 @@
 -- A name's row, as the rules' look-ups read it.
 use Prim.Native.Nat.{ℕ, zero, suc, _+_, _*_, _<_, _≤_}
-use mathlib.Core.Path.{_≡_, refl, sym, ap, ap₂, subst, _∙_}
+use mathlib.Core.Path.{_≡_, refl, sym, ap, ap₂, _∙_}
 use mathlib.Core.Bool.{Bool, true, false, cond, _&&_}
 use mathlib.Core.List.{List, [], _∷_}
 use mathlib.Core.Option.{Option, none, some}
 use native.Mathlib.Omega.{arith}
 use borrow.Author.Tests.{eq-eqb, ne-eqb, lt-ltb}
 use lib.ListN.{length, take, drop, getD, getElem?}
-use lib.Dec.{ltb}
 use Rattle.rules.specs.Words.{NONE}
 use Rattle.rules.specs.Options.{or, or-else, then}
 use Rattle.rules.specs.Syntax.{ResolvedType, Param, Name, CompiledSchema}
-use Rattle.rules.specs.Substitute.{number, primitive, definition-of, find-param, lookup, lookup-primitive-alias, named-or-poison, resolve-name}
+use Rattle.rules.specs.Types.{POISON}
+use Rattle.rules.specs.Substitute.{lookup-qualified, number, primitive, definition-of, find-param, lookup, lookup-primitive-alias, named-or-poison, resolve-name}
 use Rattle.words.specs.Words.{word-at}
 use Rattle.reading.specs.Verdict.{section-words}
 use Rattle.reading.specs.Sections.{section-at}
@@ -21,8 +21,8 @@ use Rattle.layout.specs.Rows.{Cut, row-word}
 use Rattle.layout.specs.Open.{Open, NameStands}
 use Rattle.held.specs.declared.types.MaybeType.{MaybeType}
 use Rattle.held.specs.Holds.{Holds, MaybeHolds}
-use Rattle.texts.specs.Rows.{row-text}
-use Rattle.texts.specs.Names.{InRows}
+use Rattle.texts.specs.Rows.{row-text, find-row, qualified-text}
+use Rattle.texts.specs.Names.{InRows, qualified-rule}
 
 -- an element that is there, and none past the end
 pub there : {A : Type 0} (xs : List A) (i : ℕ) → i < length xs → (a : A) × (getElem? xs i ≡ some a)
@@ -133,3 +133,21 @@ module _ {image : List ℕ} {l : Layout} (cut : Cut image l) (i : ℕ) (inside :
 
 pub in-rows : {image : List ℕ} {l : Layout} {s : CompiledSchema} → Cut image l → Open image l s → InRows image (l .names .words .start) (s .names)
 in-rows {image} {l} {s} cut o i n e = let h : i < l .names .rows = omega (arith, some-inside (s .names) i n e, o .names) in o .name i n e .text ∙ text-is cut i h
+
+-- a qualified name's definition is that of the row with its text
+pub qualified-at : {image : List ℕ} {l : Layout} {s : CompiledSchema} → Cut image l → Open image l s → (q x : ℕ) → q < l .names .rows → x < l .names .rows → (row : ℕ)
+    → row ≡ find-row image (l .names .words .start) (l .names .rows) (qualified-text image (l .names .words .start) q x) → lookup-qualified s q x ≡ lookup s row
+qualified-at {image} {l} {s} cut o q x i j row e =
+    let few : length (s .names) ≤ NONE = omega (arith, o .names, o .inside .few-names) in
+    qualified-rule image (l .names .words .start) s (in-rows cut o) few q x (omega (arith, o .names)) (omega (arith, o .names))
+    ∙ ap (λ (n : ℕ). lookup s (find-row image (l .names .words .start) n (qualified-text image (l .names .words .start) q x))) (o .names)
+    ∙ ap (lookup s) (sym e)
+
+-- and its type, by that row
+pub qualified-none : {image : List ℕ} {l : Layout} {s : CompiledSchema} → Open image l s → (q x row : ℕ) → lookup-qualified s q x ≡ lookup s row → row ≡ NONE
+    → named-or-poison s (lookup-qualified s q x) ≡ POISON
+unfolding or
+qualified-none {s = s} o q x row e z = named-is s (lookup-qualified s q x) ∙ ap (λ (n : Option ℕ). ResolvedType.named (or n NONE)) (e ∙ ap (lookup s) z ∙ no-name o)
+
+pub qualified-some : (s : CompiledSchema) (q x row d : ℕ) → lookup-qualified s q x ≡ lookup s row → d ≡ or (lookup s row) NONE → named-or-poison s (lookup-qualified s q x) ≡ ResolvedType.named d
+qualified-some s q x row d e g = named-is s (lookup-qualified s q x) ∙ ap (λ (n : Option ℕ). ResolvedType.named (or n NONE)) e ∙ ap ResolvedType.named (sym g)

@@ -10,7 +10,6 @@ use lib.ListN.{length, getD}
 use lib.Dec.{eqb}
 use Rattle.rules.specs.Syntax.{ResolvedType, Param}
 use Rattle.rules.specs.Substitute.{find-param}
-use Rattle.held.specs.declared.types.HeldType.{HeldType}
 use Rattle.held.specs.declared.types.MaybeType.{MaybeType}
 use Rattle.held.specs.Holds.{Holds, MaybeHolds}
 use Rattle.scope.specs.Views.{Row, Views}

@@ -1,0 +1,50 @@
+-- A generic name that is no alias, and one that is. Assumes nothing.
+use Prim.Native.Nat.{ℕ, suc, _+_}
+use mathlib.Core.Path.{_≡_, refl, sym, ap, subst, _∙_}
+use mathlib.Core.Bool.{true, false}
+use mathlib.Core.List.{List, [], _∷_}
+use mathlib.Core.Option.{Option, none, some}
+use lib.ListN.{length}
+use Rattle.rules.specs.Syntax.{ResolvedType, TypeExpr, Param, CompiledSchema}
+use Rattle.rules.specs.Types.{POISON}
+use Rattle.rules.specs.Substitute.{after, lookup-alias}
+use Rattle.laws.specs.Visits.{Rec, short, plain-expand, plain-node}
+use Rattle.reading.specs.Steps.{true-false}
+use Rattle.held.specs.declared.types.HeldType.{HeldType}
+use Rattle.held.specs.Holds.{Holds}
+use Rattle.scope.specs.Views.{Row, Views, Written}
+use Rattle.lookups.specs.declared.generic.Alias.{Alias}
+use Rattle.lookups.specs.Aliases.{Expr-stands, IsAlias}
+
+module _ (s : CompiledSchema) (rec : Rec) (ps : List (Param ResolvedType)) (x : ℕ) (a : TypeExpr) where
+  pub is-poison : lookup-alias s x ≡ none → plain-node s rec ps (TypeExpr.generic x a) ≡ short 1 POISON
+  unfolding plain-node plain-expand
+  is-poison e = ap (plain-expand s rec ps a) e
+
+  -- the argument, then the target with only the alias's parameter in view
+  pub is-expanded : (p : Param TypeExpr) → lookup-alias s x ≡ some p
+      → plain-node s rec ps (TypeExpr.generic x a) ≡ after (rec ps a) (λ v t. after (rec (record { name = p .name; ty = t } ∷ []) (p .ty)) (λ w u. short (suc (v + w)) u))
+  unfolding plain-node plain-expand
+  is-expanded p e = ap (plain-expand s rec ps a) e
+
+module _ (names : ℕ) (ws : List ℕ) (r : Alias) where
+  pub no-alias : (o : Option (Param TypeExpr)) → IsAlias names ws r o → r .some ≡ false → o ≡ none
+  no-alias none h e = refl
+  no-alias (some p) h e = absurd (true-false (sym (h .0) ∙ e))
+
+  pub record Found (o : Option (Param TypeExpr)) : Type 0 where
+    pub param : Param TypeExpr
+    pub is : o ≡ some param
+    pub name : r .param .0 ≡ param .name
+    pub end : ℕ
+    pub target : Expr-stands names ws (param .ty) (r .target) end
+
+  pub an-alias : (o : Option (Param TypeExpr)) → IsAlias names ws r o → r .some ≡ true → Found o
+  an-alias none h e = absurd (true-false (sym e ∙ h))
+  an-alias (some p) h e = record { param = p; is = refl; name = h .1; end = h .2; target = h .3 }
+
+-- a table of one row is this parameter alone
+pub one-view : (names : ℕ) (before after : List ℕ) (x y : ℕ) (h : HeldType) (t : ResolvedType) → Written before after 0 x h → length before ≡ 66 → x ≡ y → Holds names h t
+    → Views names after 0 (record { name = y; ty = t } ∷ [])
+one-view names before after x y h t w size e p =
+    (subst (λ (n : ℕ). Row names after 0 (record { name = n; ty = t })) e (w .row names t p), w .size ∙ size)

@@ -1,0 +1,139 @@
+// Nodes with parts: the resolver and the expander of generic aliases, which call each other. The visits left fall with each node read.
+use crate::leaves::Resolved;
+use crate::leaves::failed;
+use held::types::HeldType;
+use layout::Layout;
+use rules::ids::NameId;
+use rules::kinds::TypeKind;
+ghost use Prim.Native.Nat.{ℕ, _≤_, _<_};
+ghost use Rattle.layout.specs.Rows.{Cut};
+ghost use Rattle.subst.specs.Says.{Keeps};
+ghost use Rattle.subst.specs.Nodes.{Substitutes, Ones, Fixeds, Twos, Generics};
+
+// A code and one part.
+fn one(image: &[u8], l: Layout, at: usize, left: u32, params: &[u32]) -> Resolved
+    requires { ⌜ Cut (now image) l × (at < l .pool .len) ⌝ }
+    ensures { λ r. ⌜ Keeps left r (Ones (now (image .entry)) l at left (now (params .entry)) r) ⌝ }
+{
+    let a = substitute_type(image, l, at + 1, left, params);
+    if !a.ok {
+        return a;
+    }
+    let pool = l.pool;
+    let x = a.ty;
+    let g = HeldType::one(reading::section_word(image, pool, at), x);
+    let ty = g.ty;
+    Resolved {
+        ok: g.ok,
+        next: a.next,
+        left: a.left,
+        ty,
+    }
+}
+
+// A fixed array: the two words of its length, and its part.
+fn fixed(image: &[u8], l: Layout, at: usize, left: u32, params: &[u32]) -> Resolved
+    requires { ⌜ Cut (now image) l × (at < l .pool .len) ⌝ }
+    ensures { λ r. ⌜ Keeps left r (Fixeds (now (image .entry)) l at left (now (params .entry)) r) ⌝ }
+{
+    let a = substitute_type(image, l, at + 1 + 1 + 1, left, params);
+    if !a.ok {
+        return a;
+    }
+    let pool = l.pool;
+    let low = reading::section_word(image, pool, at + 1);
+    let high = reading::section_word(image, pool, at + 1 + 1);
+    let x = a.ty;
+    let g = HeldType::fixed(low, high, x);
+    let ty = g.ty;
+    Resolved {
+        ok: g.ok,
+        next: a.next,
+        left: a.left,
+        ty,
+    }
+}
+
+// A code and two parts.
+fn two(image: &[u8], l: Layout, at: usize, left: u32, params: &[u32]) -> Resolved
+    requires { ⌜ Cut (now image) l × (at < l .pool .len) ⌝ }
+    ensures { λ r. ⌜ Keeps left r (Twos (now (image .entry)) l at left (now (params .entry)) r) ⌝ }
+{
+    let a = substitute_type(image, l, at + 1, left, params);
+    if !a.ok {
+        return a;
+    }
+    let m = a.next;
+    let rest = a.left;
+    let b = substitute_type(image, l, m, rest, params);
+    if !b.ok {
+        return b;
+    }
+    let pool = l.pool;
+    let x = a.ty;
+    let y = b.ty;
+    let g = HeldType::two(reading::section_word(image, pool, at), x, y);
+    let ty = g.ty;
+    Resolved {
+        ok: g.ok,
+        next: b.next,
+        left: b.left,
+        ty,
+    }
+}
+
+// A generic alias: its argument, then its target with only its own parameter in view. A name that is none reads no argument.
+fn expand(image: &[u8], l: Layout, at: usize, left: u32, params: &[u32]) -> Resolved
+    requires { ⌜ Cut (now image) l × (at < l .pool .len) ⌝ }
+    ensures { λ r. ⌜ Keeps left r (Generics (now (image .entry)) l at left (now (params .entry)) r) ⌝ }
+{
+    let pool = l.pool;
+    let x = NameId(reading::section_word(image, pool, at + 1));
+    let alias = lookups::generic::lookup_alias(image, l, x);
+    if !alias.some {
+        return crate::leaves::poison(image, l, at + 1 + 1, left);
+    }
+    let a = substitute_type(image, l, at + 1 + 1, left, params);
+    if !a.ok {
+        return a;
+    }
+    let argument = a.ty;
+    let mut own = [0u32; 66];
+    scope::write_row(&mut own, 0, alias.param, argument);
+    let target = alias.target;
+    let rest = a.left;
+    let b = substitute_type(image, l, target, rest, &own);
+    let ty = b.ty;
+    Resolved {
+        ok: b.ok,
+        next: a.next,
+        left: b.left,
+        ty,
+    }
+}
+
+pub fn substitute_type(image: &[u8], l: Layout, at: usize, left: u32, params: &[u32]) -> Resolved
+    requires { ⌜ Cut (now image) l ⌝ }
+    ensures { λ r. ⌜ Keeps left r (Substitutes (now (image .entry)) l at left (now (params .entry)) r) ⌝ }
+{
+    if left == 0 {
+        return failed();
+    }
+    let pool = l.pool;
+    if pool.len <= at {
+        return failed();
+    }
+    let k = kinds::type_kind(reading::section_word(image, pool, at));
+    match k {
+        TypeKind::Plain => crate::leaves::leaf(image, l, at, left - 1),
+        TypeKind::Sub => crate::leaves::leaf(image, l, at, left - 1),
+        TypeKind::Bits => crate::leaves::leaf(image, l, at, left - 1),
+        TypeKind::Named => crate::leaves::named(image, l, at, left - 1, params),
+        TypeKind::Qualified => crate::leaves::qualified(image, l, at, left - 1),
+        TypeKind::Generic => expand(image, l, at, left - 1, params),
+        TypeKind::One => one(image, l, at, left - 1, params),
+        TypeKind::Fixed => fixed(image, l, at, left - 1, params),
+        TypeKind::Two => two(image, l, at, left - 1, params),
+        TypeKind::Unknown => failed(),
+    }
+}

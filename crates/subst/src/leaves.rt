@@ -1,0 +1,90 @@
+// Nodes with no part to resolve. Their visit is taken off already.
+use held::types::HeldType;
+use layout::Layout;
+use rules::ids::NameId;
+use rules::ids::TypeId;
+ghost use Prim.Native.Nat.{ℕ, _≤_, _<_};
+ghost use mathlib.Core.Path.{_≡_};
+ghost use mathlib.Core.Bool.{false};
+ghost use Rattle.layout.specs.Rows.{Inside, Cut};
+ghost use Rattle.subst.specs.Says.{Keeps};
+ghost use Rattle.subst.specs.Nodes.{Leaves, Names, Qualifieds, Poisons};
+
+// What resolving comes to: whether it keeps the bounds, the place behind the expression, the visits left, the type.
+pub struct Resolved {
+    pub ok: bool,
+    pub next: usize,
+    pub left: u32,
+    pub ty: HeldType,
+}
+
+pub fn failed() -> Resolved
+    ensures { λ r. ⌜ (r .ok ≡ false) × (r .left ≡ 0) ⌝ }
+{
+    Resolved {
+        ok: false,
+        next: 0,
+        left: 0,
+        ty: HeldType::empty(),
+    }
+}
+
+// A type that stands for itself.
+pub fn leaf(image: &[u8], l: Layout, at: usize, left: u32) -> Resolved
+    requires { ⌜ Inside (now image) l ⌝ }
+    ensures { λ r. ⌜ Keeps left r (Leaves (now (image .entry)) l at left r) ⌝ }
+{
+    let h = stored::hold_type(image, l, at);
+    let ty = h.ty;
+    Resolved {
+        ok: true,
+        next: h.next,
+        left,
+        ty,
+    }
+}
+
+pub fn named(image: &[u8], l: Layout, at: usize, left: u32, params: &[u32]) -> Resolved
+    requires { ⌜ Inside (now image) l × (at < l .pool .len) ⌝ }
+    ensures { λ r. ⌜ Keeps left r (Names (now (image .entry)) l at left (now (params .entry)) r) ⌝ }
+{
+    let pool = l.pool;
+    let x = NameId(reading::section_word(image, pool, at + 1));
+    Resolved {
+        ok: true,
+        next: at + 1 + 1,
+        left,
+        ty: lookups::names::resolve_name(image, l, params, x),
+    }
+}
+
+pub fn qualified(image: &[u8], l: Layout, at: usize, left: u32) -> Resolved
+    requires { ⌜ Cut (now image) l × (at < l .pool .len) ⌝ }
+    ensures { λ r. ⌜ Keeps left r (Qualifieds (now (image .entry)) l at left r) ⌝ }
+{
+    let pool = l.pool;
+    let namespace = NameId(reading::section_word(image, pool, at + 1));
+    let x = NameId(reading::section_word(image, pool, at + 1 + 1));
+    Resolved {
+        ok: true,
+        next: at + 1 + 1 + 1,
+        left,
+        ty: lookups::names::resolve_qualified(image, l, namespace, x),
+    }
+}
+
+// A generic name that is no alias: its argument at `at` is passed over, and nothing of it counts.
+pub fn poison(image: &[u8], l: Layout, at: usize, left: u32) -> Resolved
+    requires { ⌜ Inside (now image) l ⌝ }
+    ensures { λ r. ⌜ Keeps left r (Poisons (now (image .entry)) l at left r) ⌝ }
+{
+    let pool = l.pool;
+    let names = l.names;
+    let c = pool_types::expressions::check_type_expr(image, pool, at, names.rows);
+    Resolved {
+        ok: true,
+        next: c.next,
+        left,
+        ty: HeldType::named(TypeId::POISON),
+    }
+}

@@ -1,0 +1,28 @@
+// A whole expression's answer.
+use held::types::HeldType;
+use layout::Layout;
+ghost use Rattle.layout.specs.Rows.{Cut};
+ghost use Rattle.subst.specs.Answers.{AnswersAll};
+
+// Whether an expression keeps the bounds; then its visits, the place behind it, and its type.
+pub struct Substituted {
+    pub ok: bool,
+    pub visits: u32,
+    pub next: usize,
+    pub ty: HeldType,
+}
+
+// The expression at `at` with these type parameters in view: at most 1,024 visits, and no run over 64 words.
+pub fn substitute(image: &[u8], l: Layout, at: usize, params: &[u32]) -> Substituted
+    requires { ⌜ Cut (now image) l ⌝ }
+    ensures { λ r. ⌜ AnswersAll (now (image .entry)) l at (now (params .entry)) r ⌝ }
+{
+    let r = crate::cycle::substitute_type(image, l, at, 1024, params);
+    let ty = r.ty;
+    Substituted {
+        ok: r.ok,
+        visits: 1024 - r.left,
+        next: r.next,
+        ty,
+    }
+}
