@@ -1,4 +1,4 @@
-// Name rows: each by itself, and all of them with their texts.
+// Name rows: each by itself, and all of them.
 use layout::Layout;
 use rules::ids::NameId;
 use rules::ids::TypeId;

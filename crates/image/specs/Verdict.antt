@@ -1,0 +1,15 @@
+-- What reading an image comes to.
+use Prim.Native.Nat.{ℕ}
+use mathlib.Core.Path.{_≡_}
+use mathlib.Core.List.{List}
+use mathlib.Core.Option.{some}
+use Rattle.rules.specs.Syntax.{CompiledSchema}
+use Rattle.rules.specs.Options.{is-some}
+use Rattle.rules.specs.Image.{readable}
+use Rattle.layout.specs.declared.Opened.{Opened}
+use Rattle.layout.specs.Open.{Open}
+
+-- ok exactly where the rules read a schema, and then that schema stands by the layout
+pub record Verdict (image : List ℕ) (r : Opened) : Type 0 where
+  pub ok : r .ok ≡ is-some (readable image)
+  pub opens : (s : CompiledSchema) → readable image ≡ some s → Open image (r .layout) s

@@ -1,0 +1,20 @@
+// An image's verdict: readable or not, and then its layout.
+mod all;
+
+use layout::Opened;
+ghost use Rattle.image.specs.Verdict.{Verdict};
+
+// Whether the image is readable, and where its rows stand: one walk of the image.
+pub fn read_image(image: &[u8]) -> Opened
+    ensures { λ r. ⌜ Verdict (now (image .entry)) r ⌝ }
+{
+    let o = sections::read_layout(image);
+    if !o.ok {
+        return o;
+    }
+    let l = o.layout;
+    Opened {
+        ok: all::check_rows(image, l),
+        layout: l,
+    }
+}

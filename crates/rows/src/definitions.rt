@@ -1,0 +1,60 @@
+// Definition rows, each with its body in the pool.
+use layout::Layout;
+use rules::ids::TypeId;
+use rules::kinds::DefinitionKind;
+ghost use Prim.Native.Nat.{_<_};
+ghost use Rattle.layout.specs.Rows.{Cut};
+ghost use Rattle.rows.specs.Verdict.{DefinitionSays, DefinitionsSay};
+
+// A kind, and a body of that kind where the row says.
+fn check_definition_row(image: &[u8], l: Layout, i: u32) -> bool
+    requires { ⌜ Cut (now image) l × (i < l .definitions .rows) ⌝ }
+    ensures { λ r. ⌜ DefinitionSays (now (image .entry)) l i r ⌝ }
+{
+    let row = layout::definition_row(image, l, TypeId(i));
+    let kind = row.kind;
+    let start = row.start as usize;
+    let pool = l.pool;
+    let names = l.names.rows;
+    match kind {
+        DefinitionKind::Other => true,
+        DefinitionKind::Message => {
+            let c = pool_definitions::messages::check_message(image, pool, start, names);
+            c.ok
+        }
+        DefinitionKind::GenericAlias => {
+            let c = pool_definitions::messages::check_generic_alias(image, pool, start, names);
+            c.ok
+        }
+        DefinitionKind::Trait => {
+            let c = pool_definitions::traits::check_trait(image, pool, start, names);
+            c.ok
+        }
+        DefinitionKind::Implementation => {
+            let c = pool_definitions::implementations::check_implementation(
+                image,
+                pool,
+                start,
+                names,
+                l.strings.rows,
+            );
+            c.ok
+        }
+        DefinitionKind::Unknown => false,
+    }
+}
+
+pub fn check_definitions(image: &[u8], l: Layout) -> bool
+    requires { ⌜ Cut (now image) l ⌝ }
+    ensures { λ r. ⌜ DefinitionsSay (now (image .entry)) l r ⌝ }
+{
+    let n = l.definitions.rows;
+    let mut i = 0;
+    while i < n {
+        if !check_definition_row(image, l, i) {
+            return false;
+        }
+        i += 1;
+    }
+    true
+}
