@@ -6,8 +6,8 @@ use Rattle.rules.specs.Words.{NONE}
 use Rattle.rules.specs.Answer.{Answer}
 
 abbrev pub fields : ℕ → ℕ → ℕ → ℕ → ℕ → List ℕ → List ℕ → Answer
-fields number function second length visits output detail =
-    record { number = number; function = function; second = second; length = length; visits = visits; output = output; detail = detail }
+fields number function second size visits output detail =
+    record { number = number; function = function; second = second; size = size; visits = visits; output = output; detail = detail }
 
 -- with no names, by its length
 pub lengths : (number visits : ℕ) (output detail : List ℕ) {n m : ℕ} → n ≡ m → fields number NONE NONE n visits output detail ≡ fields number NONE NONE m visits output detail

@@ -9,17 +9,17 @@ use Rattle.rules.specs.Refusal as rules
 use Rattle.rules.specs.Refusal.{Result, ok, err, refusal}
 use Rattle.rules.specs.Answer as rules-answer
 use Rattle.rules.specs.Answer.{refused, accepted, too-short}
-use Rattle.words.specs.Puts.{puts}
 use Rattle.answers.specs.declared.answer.Answer.{Answer}
 use Rattle.answers.specs.declared.answer.Outcome.{Outcome}
 use Rattle.answers.specs.Refusals.{refusal-of}
+use Rattle.answers.specs.Writes.{Writes}
 
 unfoldable pub answer-of : Answer → List ℕ → List ℕ → rules-answer.Answer
 answer-of a output detail = record {
   number = a .number;
   function = a .function .0;
   second = a .second .0;
-  length = a .length;
+  size = a .length;
   visits = a .visits;
   output = output;
   detail = detail;
@@ -44,4 +44,4 @@ AcceptsAll a n visits = (words output detail : List ℕ) → n ≡ 4 * length wo
 -- what comes of a call: its refusal, or its visits and its words, written over an old output as far as they fit
 abbrev pub Comes : Result (ℕ × List ℕ) → List ℕ → List ℕ → Outcome → Type 0
 Comes (err e) old new r = (r .ok ≡ false) × (refusal-of (r .refusal) ≡ e)
-Comes (ok p) old new r = (r .ok ≡ true) × (r .visits ≡ p .0) × (r .length ≡ 4 * length (p .1)) × (new ≡ puts (length old) 0 (p .1) old)
+Comes (ok p) old new r = (r .ok ≡ true) × (r .visits ≡ p .0) × Writes (p .1) 0 (r .length) old new

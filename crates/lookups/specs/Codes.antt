@@ -91,4 +91,4 @@ module _ (names : ℕ) (ws : List ℕ) (start : ℕ) {A : Type 0} (f : ResolvedT
       → ((t : ResolvedType) (n : ℕ) → Stands ws (run t) start n → Stored names t → f t ≡ q) → then o f ≡ q
   unfolding then
   some-alias q none a e h = absurd (e a)
-  some-alias q (some t) a e h = let w : Type-stands names ws t start (a .1 .next) = of (type-gives names ws start) (a .1 .read) .1 in h t (a .1 .next) (w .run-at) (w .stored)
+  some-alias q (some t) a e h = let w : Type-stands names ws t start (a .1 .next) = of (type-gives names ws start) (a .1 .read) .1 in h t (a .1 .next) (w .words-at) (w .good)

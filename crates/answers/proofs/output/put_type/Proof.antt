@@ -5,7 +5,7 @@ use mathlib.Core.List.{List}
 use denote.Ref.{now}
 use lib.ListN.{length, take}
 use lib.Seq.{length-take-le}
-use Rattle.words.specs.Puts.{puts}
+use Rattle.answers.specs.Writes.{writes-same}
 use Rattle.held.proofs.Runs.{run-take}
 use borrow.Author.Needs.{needs}
 use Rattle.answers.proofs.output.put_type.Statement.{statement}
@@ -30,7 +30,7 @@ returns : tie.Need-returns
 returns c = let a = c .before .before .before .before .before .before .before .before .args in
     let w : length (a .ty .words) ≡ 64 = search needs in
     let e = run-take (a .ty) (c .before .before .before .before .before .before .count .result) w (c .before .before .before .before .before .before .count .ensures .0) in
-    (c .before .before .put-words .ensures .0 ∙ ap (λ (l : List ℕ). a .at + 4 * length l) e, c .before .before .put-words .ensures .1 ∙ ap (λ (l : List ℕ). puts (length (now (a .out))) (a .at) l (now (a .out))) e)
+    writes-same e (c .before .before .put-words .ensures)
 
 pub put-type-spec : {M : Type 1} → statement M
 put-type-spec =

@@ -54,7 +54,7 @@ returns : tie.Need-returns Inv-loop μ-loop
 returns c = let l = c .before .loop in
     let a = c .before .before .before .before .args in
     let e : l .i ≡ length (now (a .run)) = omega arith in
-    (omega arith, l .inv .2 ∙ ap (λ (k : List ℕ). puts (length (now (a .out))) (a .at) k (now (a .out))) (take-all (l .i) (now (a .run)) (omega arith)))
+    record { place = omega arith; bytes = l .inv .2 ∙ ap (λ (k : List ℕ). puts (length (now (a .out))) (a .at) k (now (a .out))) (take-all (l .i) (now (a .run)) (omega arith)) }
 
 pub put-words-spec : {M : Type 1} → statement M
 put-words-spec =

@@ -30,7 +30,7 @@ returns : tie.Need-returns
 returns c = let a = c .before .before .before .before .before .before .before .before .args in
     let w : length (a .r .words) ≡ 131 = search needs in
     let e = detail-take (a .r) (c .before .before .before .before .before .before .size .result) w (c .before .before .before .before .before .before .size .ensures .0) in
-    c .before .before .put-words .ensures .1 ∙ ap (λ (l : List ℕ). puts (length (now (a .detail))) 0 l (now (a .detail))) e ∙ puts-start _ _ _ (omega (arith, c .before .before .before .before .before .before .size .ensures .0, c .before .before .before .before .before .before .size .ensures .1)) (omega arith)
+    c .before .before .put-words .ensures .bytes ∙ ap (λ (l : List ℕ). puts (length (now (a .detail))) 0 l (now (a .detail))) e ∙ puts-start _ _ _ (omega (arith, c .before .before .before .before .before .before .size .ensures .0, c .before .before .before .before .before .before .size .ensures .1)) (omega arith)
 
 pub write-detail-spec : {M : Type 1} → statement M
 write-detail-spec =
