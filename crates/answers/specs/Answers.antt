@@ -41,7 +41,10 @@ TooShort a n = (words output detail : List ℕ) → n ≡ 4 * length words → a
 abbrev pub AcceptsAll : Answer → ℕ → ℕ → Type 0
 AcceptsAll a n visits = (words output detail : List ℕ) → n ≡ 4 * length words → answer-of a (over-start (bytes-of words) output) detail ≡ accepted visits words output detail
 
+abbrev pub Agrees : Result (ℕ × List ℕ) → List ℕ → List ℕ → Outcome → Type 0
+Agrees (err e) old new r = (r .ok ≡ false) × (refusal-of (r .refusal) ≡ e)
+Agrees (ok p) old new r = (r .ok ≡ true) × (r .visits ≡ p .0) × Writes (p .1) 0 (r .length) old new
+
 -- what comes of a call: its refusal, or its visits and its words, written over an old output as far as they fit
-abbrev pub Comes : Result (ℕ × List ℕ) → List ℕ → List ℕ → Outcome → Type 0
-Comes (err e) old new r = (r .ok ≡ false) × (refusal-of (r .refusal) ≡ e)
-Comes (ok p) old new r = (r .ok ≡ true) × (r .visits ≡ p .0) × Writes (p .1) 0 (r .length) old new
+pub record Comes (call : Result (ℕ × List ℕ)) (old new : List ℕ) (r : Outcome) : Type 0 where
+  pub is : Agrees call old new r

@@ -2,8 +2,9 @@
 use crate::refusal::Refusal;
 use rules::ids::NameId;
 ghost use Prim.Native.Nat.{_≤_};
+ghost use mathlib.Core.Path.{_≡_};
+ghost use mathlib.Core.Bool.{true, false};
 ghost use lib.ListN.{length};
-ghost use Rattle.rules.specs.Refusal.{refusal};
 ghost use Rattle.answers.specs.Refusals.{refusal-of};
 ghost use Rattle.answers.specs.Answers.{Refuses, RefusesAlone, AcceptsAll, TooShort};
 
@@ -22,6 +23,30 @@ pub struct Outcome {
     pub refusal: Refusal,
     pub length: usize,
     pub visits: u32,
+}
+
+// A call's refusal.
+pub fn refused(r: Refusal) -> Outcome
+    ensures { λ o. ⌜ (o .ok ≡ false) × (o .refusal ≡ r) ⌝ }
+{
+    Outcome {
+        ok: false,
+        refusal: r,
+        length: 0,
+        visits: 0,
+    }
+}
+
+// A call's bytes and visits.
+pub fn accepted(length: usize, visits: u32) -> Outcome
+    ensures { λ o. ⌜ (o .ok ≡ true) × (o .length ≡ length) × (o .visits ≡ visits) ⌝ }
+{
+    Outcome {
+        ok: true,
+        refusal: Refusal::alone(0),
+        length,
+        visits,
+    }
 }
 
 // A refusal with no names, which writes nothing.
