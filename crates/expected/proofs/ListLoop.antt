@@ -133,7 +133,7 @@ module _ {image : List ℕ} {l : Layout} {params : List ℕ} {at : ℕ} (h : Fun
       end-o (f ∷ fs) z s c y e q = absurd (omega arith)
       end-o [] z s c y e q =
           comes-ok (ap in-words (s ∙ prepend-end (h .schema) (h .seen) visits (v .made))) y q
-          (subst (λ (k : ℕ). Writes _ 0 k first-out new) (sym e) (writes-same (ap (λ (k : ℕ). k ∷ each words-of (v .made)) c) (writes-then count-written (v .writes))))
+          (subst (λ (k : ℕ). Writes (length (v .made) ∷ each words-of (v .made)) 0 k first-out new) (sym e) (writes-same (ap (λ (k : ℕ). k ∷ each words-of (v .made)) c) (writes-then count-written (v .writes))))
 
       -- none is left
       pub ended : w ≤ i → {o : Outcome} → o .ok ≡ true → o .length ≡ place → o .visits ≡ visits → Comes (in-words (all-of (h .tree))) first-out new o

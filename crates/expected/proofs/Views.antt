@@ -20,15 +20,15 @@ use Rattle.traits.specs.Given.{Given}
 use Rattle.expected.specs.Asked.{Functions-here, Asked}
 
 -- names one behind the other end as many words further
-names-end : (ws : List ℕ) (limit : ℕ) (xs : List ℕ) (at n : ℕ) → Row (Below-at ws limit) xs at n → n ≡ at + length xs
+pub names-end : (ws : List ℕ) (limit : ℕ) (xs : List ℕ) (at n : ℕ) → Row (Below-at ws limit) xs at n → n ≡ at + length xs
 names-end ws limit [] at n r = omega (arith, r)
 names-end ws limit (x ∷ xs) at n r = omega (arith, names-end ws limit xs (r .0) n (r .2), r .1 .2)
 
 module _ {image : List ℕ} {l : Layout} {start types : ℕ} (a : Asked image l start types) where
-  abbrev wants : ℕ
+  abbrev pub wants : ℕ
   wants = length (a .trait .type-params)
 
-  abbrev has : ℕ
+  abbrev pub has : ℕ
   has = length (a .impl .type-args)
 
   abbrev six : Bool → Result (ℕ × List PortableSignature)
@@ -39,10 +39,10 @@ module _ {image : List ℕ} {l : Layout} {start types : ℕ} (a : Asked image l 
   tested b e = ap six e
 
   module _ {w g : ℕ} (wanted : w ≡ getD (pool-words image l) (start + 1) 0) (given : g ≡ getD (pool-words image l) types 0) where
-    wants-is : w ≡ wants
+    pub wants-is : w ≡ wants
     wants-is = wanted ∙ a .trait-at .parts .type-params-at .0 .is
 
-    has-is : g ≡ has
+    pub has-is : g ≡ has
     has-is = given ∙ a .types-at .0 .is
 
     pub few : w ≤ 8
