@@ -5,7 +5,7 @@ use rules::kinds::ExprKind;
 ghost use Rattle.rules.specs.Reader.{maybe};
 ghost use Rattle.rules.specs.ReadBodies.{exprs, expr-node, expr-tree, expression};
 ghost use Rattle.rules.specs.declared.kinds.ExprKind.the-variants.{Call, TraitMethodCall};
-ghost use Rattle.reading.specs.Verdict.{section-words, Lies, Says};
+ghost use Rattle.reading.specs.Verdict.{section-words, Lies, Says, After};
 
 // So many expressions, each nested at most `nesting` deep.
 pub fn check_exprs(
@@ -109,6 +109,25 @@ pub fn check_method(
     )
 }
 
+// An expression, nested at most `nesting` deep, behind what h found.
+pub fn check_operand(
+    image: &[u8],
+    pool: Section,
+    h: Checked,
+    names: u32,
+    strings: u32,
+    nesting: u32,
+) -> Checked
+    requires { ⌜ Lies (now image) pool ⌝ }
+    ensures { λ r. ⌜ After (expr-tree names strings nesting) (section-words (now (image .entry)) pool) h r ⌝ }
+{
+    if !h.ok {
+        return h;
+    }
+    let n = h.next;
+    check_expr(image, pool, n, names, strings, nesting)
+}
+
 // An expression, nested at most `nesting` deep.
 pub fn check_expr(
     image: &[u8],
@@ -129,6 +148,7 @@ pub fn check_expr(
         return a;
     }
     let n = a.next;
+    let d = nesting - 1;
     let k = kinds::expr_kind(reading::section_word(image, pool, at));
     match k {
         ExprKind::Literal => pool_types::parts::check_wide(pool, n),
@@ -136,37 +156,35 @@ pub fn check_expr(
         ExprKind::Text => reading::check_below(image, pool, n, strings),
         ExprKind::Local => reading::check_below(image, pool, n, names),
         ExprKind::SelfRef => a,
-        ExprKind::FieldAccess => {
-            let h = reading::check_below(image, pool, n, names);
-            if !h.ok {
-                return h;
-            }
-            let m = h.next;
-            check_expr(image, pool, m, names, strings, nesting - 1)
-        }
-        ExprKind::Call => check_call(image, pool, n, names, strings, nesting - 1),
-        ExprKind::TraitMethodCall => check_method(image, pool, n, names, strings, nesting - 1),
+        ExprKind::FieldAccess => check_operand(
+            image,
+            pool,
+            reading::check_below(image, pool, n, names),
+            names,
+            strings,
+            d,
+        ),
+        ExprKind::Call => check_call(image, pool, n, names, strings, d),
+        ExprKind::TraitMethodCall => check_method(image, pool, n, names, strings, d),
         ExprKind::Binary => {
-            let h = reading::check_below(image, pool, n, 10);
-            if !h.ok {
-                return h;
-            }
-            let m = h.next;
-            let l = check_expr(image, pool, m, names, strings, nesting - 1);
-            if !l.ok {
-                return l;
-            }
-            let o = l.next;
-            check_expr(image, pool, o, names, strings, nesting - 1)
+            let l = check_operand(
+                image,
+                pool,
+                reading::check_below(image, pool, n, 10),
+                names,
+                strings,
+                d,
+            );
+            check_operand(image, pool, l, names, strings, d)
         }
-        ExprKind::Unary => {
-            let h = reading::check_below(image, pool, n, 2);
-            if !h.ok {
-                return h;
-            }
-            let m = h.next;
-            check_expr(image, pool, m, names, strings, nesting - 1)
-        }
+        ExprKind::Unary => check_operand(
+            image,
+            pool,
+            reading::check_below(image, pool, n, 2),
+            names,
+            strings,
+            d,
+        ),
         ExprKind::Unknown => Checked { ok: false, next: 0 },
     }
 }

@@ -14,7 +14,7 @@ use Rattle.laws.specs.Definitions.{message-exact, generic-alias-exact, trait-fu
 use Rattle.reading.specs.Gives.{Gives, Word, Below-at, Counted, Maybe-at, then, given, rule-then, word-then, below-then, below-gives, many-gives, maybe-gives, either}
 use Rattle.reading.specs.Stands.{Held, held-gives}
 use Rattle.pool_types.specs.TypeAt.{Type-stands, type-gives}
-use Rattle.pool_types.specs.TypeExprAt.{Type-expr-stands, type-expr-gives}
+use Rattle.pool_type_exprs.specs.TypeExprAt.{Type-expr-stands, type-expr-gives}
 use Rattle.pool_types.specs.ParamAt.{Param-at, param-gives}
 use Rattle.pool_bodies.specs.StatementAt.{Body-stands, body-gives}
 

@@ -26,6 +26,15 @@ different-functions names = tested (many 64 (trait-function names)) (λ fs. all-
 clash : {b : Bool} → b ≡ true → b ≡ false → ⊥
 clash e f = let z : _≡_ {A = ℕ} 0 1 = cc in omega arith
 
+-- nothing is in the empty list
+pub member-none : (x : ℕ) → member x [] ≡ false
+unfolding member
+member-none x = refl
+
+pub different-none : all-different [] ≡ true
+unfolding all-different
+different-none = refl
+
 -- the head is the number, or the rest has it
 pub member-head : (x y : ℕ) (ys : List ℕ) → x ≡ y → member x (y ∷ ys) ≡ true
 unfolding member

@@ -1,5 +1,4 @@
 // Whether a definition's body stands in the pool, as the rules read it.
 pub mod implementations;
-pub mod kinds;
 pub mod messages;
 pub mod traits;

@@ -22,5 +22,5 @@ pub fn check_generic_alias(image: &[u8], pool: Section, at: usize, names: u32) -
         return p;
     }
     let n = p.next;
-    pool_types::expressions::check_type_expr(image, pool, n, names)
+    pool_type_exprs::check_type_expr(image, pool, n, names)
 }

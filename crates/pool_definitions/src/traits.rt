@@ -24,7 +24,7 @@ pub fn check_trait_return(image: &[u8], pool: Section, at: usize, names: u32) ->
     if code == 1 {
         return pool_types::resolved::check_type(image, pool, n, names);
     }
-    pool_types::expressions::check_type_expr(image, pool, n, names)
+    pool_type_exprs::check_type_expr(image, pool, n, names)
 }
 
 // A name, at most 32 parameters, and the return.
@@ -37,7 +37,7 @@ pub fn check_trait_function(image: &[u8], pool: Section, at: usize, names: u32) 
         return a;
     }
     let n = a.next;
-    let p = pool_types::expressions::check_expr_params(image, pool, n, names, 32);
+    let p = pool_type_exprs::check_expr_params(image, pool, n, names, 32);
     if !p.ok {
         return p;
     }

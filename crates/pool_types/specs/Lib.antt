@@ -1,3 +1,2 @@
 pub mod TypeAt
-pub mod TypeExprAt
 pub mod ParamAt

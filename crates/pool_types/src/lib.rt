@@ -1,4 +1,3 @@
-// Whether a resolved type or a type expression stands in the pool, as the rules read it.
-pub mod expressions;
+// Whether a resolved type stands in the pool, as the rules read it.
 pub mod parts;
 pub mod resolved;

@@ -4,7 +4,19 @@ use reading::Section;
 use rules::kinds::TypeKind;
 ghost use Rattle.rules.specs.Reader.{many, maybe};
 ghost use Rattle.rules.specs.ReadTypes.{type-tree, resolved-type, param};
-ghost use Rattle.reading.specs.Verdict.{section-words, Lies, Says};
+ghost use Rattle.reading.specs.Verdict.{section-words, Lies, Says, After};
+
+// A resolved type, at most `depth` deep, behind what h found.
+pub fn check_part(image: &[u8], pool: Section, h: Checked, names: u32, depth: u32) -> Checked
+    requires { ⌜ Lies (now image) pool ⌝ }
+    ensures { λ r. ⌜ After (type-tree names depth) (section-words (now (image .entry)) pool) h r ⌝ }
+{
+    if !h.ok {
+        return h;
+    }
+    let n = h.next;
+    check_tree(image, pool, n, names, depth)
+}
 
 // A resolved type, at most `depth` deep.
 pub fn check_tree(image: &[u8], pool: Section, at: usize, names: u32, depth: u32) -> Checked
@@ -19,6 +31,7 @@ pub fn check_tree(image: &[u8], pool: Section, at: usize, names: u32, depth: u32
         return a;
     }
     let n = a.next;
+    let d = depth - 1;
     let k = kinds::type_kind(reading::section_word(image, pool, at));
     match k {
         TypeKind::Plain => a,
@@ -27,23 +40,9 @@ pub fn check_tree(image: &[u8], pool: Section, at: usize, names: u32, depth: u32
         TypeKind::Named => reading::check_word(pool, n),
         TypeKind::Qualified => Checked { ok: false, next: 0 },
         TypeKind::Generic => Checked { ok: false, next: 0 },
-        TypeKind::One => check_tree(image, pool, n, names, depth - 1),
-        TypeKind::Fixed => {
-            let h = crate::parts::check_wide(pool, n);
-            if !h.ok {
-                return h;
-            }
-            let m = h.next;
-            check_tree(image, pool, m, names, depth - 1)
-        }
-        TypeKind::Two => {
-            let h = check_tree(image, pool, n, names, depth - 1);
-            if !h.ok {
-                return h;
-            }
-            let m = h.next;
-            check_tree(image, pool, m, names, depth - 1)
-        }
+        TypeKind::One => check_tree(image, pool, n, names, d),
+        TypeKind::Fixed => check_part(image, pool, crate::parts::check_wide(pool, n), names, d),
+        TypeKind::Two => check_part(image, pool, check_tree(image, pool, n, names, d), names, d),
         TypeKind::Unknown => Checked { ok: false, next: 0 },
     }
 }

@@ -5,3 +5,4 @@ pub mod Gives
 pub mod Says
 pub mod Loops
 pub mod Stands
+pub mod Trees

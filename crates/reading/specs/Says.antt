@@ -11,7 +11,7 @@ use Rattle.rules.specs.Reader.{Rest, rest-at, Reader, _>>=_, bound, give, fail,
 use Rattle.rules.specs.ReadTypes.{sized}
 use Rattle.reading.specs.declared.Checked.{Checked}
 use Rattle.reading.specs.declared.Section.{Section}
-use Rattle.reading.specs.Verdict.{section-words, Lies, refusal, Agrees, Says}
+use Rattle.reading.specs.Verdict.{section-words, Lies, refusal, Agrees, Says, After}
 use Rattle.reading.specs.Sections.{length-section, drop-past}
 use Rattle.reading.specs.Steps.{true-false, not-ok, first-in, assoc-o, then-o, stop-o, last-o}
 use Rattle.reading.specs.Gives as gives
@@ -41,6 +41,34 @@ stop {A} {B} {r} f {ws} {at} {c} s n = record { is = stop-o ws (r (rest-at ws at
 pub last : {A B : Type 0} {r : Reader A} (f : A → B) {ws : List ℕ} {at : ℕ} {c : Checked} → Says r ws at c → Says (r >>= λ a. give (f a)) ws at c
 unfolding _>>=_
 last {A} {B} {r} f {ws} {at} {c} s = record { is = last-o ws (r (rest-at ws at)) f c (s .is) }
+
+-- by whether a check found something
+by-ok : {P : Type 0} (h : Checked) → (h .ok ≡ true → P) → (h .ok ≡ false → P) → P
+by-ok {P} h f g = go (h .ok) refl
+  where
+    go : (b : Bool) → h .ok ≡ b → P
+    go true e = f e
+    go false e = g e
+
+pub after-stop : {A : Type 0} (r : Reader A) (ws : List ℕ) {h : Checked} → h .ok ≡ false → After r ws h h
+after-stop r ws n = record { refused = λ e. refl; goes-on = λ y. absurd (true-false (sym y ∙ n)) }
+
+pub after-goes : {A : Type 0} {r : Reader A} {ws : List ℕ} {h d : Checked} → h .ok ≡ true → Says r ws (h .next) d → After r ws h d
+after-goes y s = record { refused = λ n. absurd (true-false (sym y ∙ n)); goes-on = λ e. s }
+
+-- a reading, and a last one behind it
+pub after : {A B C : Type 0} {r : Reader A} {s : Reader B} (g : A → B → C) {ws : List ℕ} {at : ℕ} {h d : Checked} → Says r ws at h → After s ws h d → Says (r >>= λ a. s >>= λ b. give (g a b)) ws at d
+after {A} {B} {C} {r} {s} g {ws} {at} {h} {d} x y =
+    by-ok h (λ e. then x e (λ a. last (g a) (y .goes-on e)))
+    (λ e. subst (λ (c : Checked). Says (r >>= λ a. s >>= λ b. give (g a b)) ws at c) (sym (y .refused e)) (stop _ x e))
+
+-- a reading, and two behind it
+pub after-two : {A B C D : Type 0} {r : Reader A} {s : Reader B} {t : Reader C} (g : A → B → C → D) {ws : List ℕ} {at : ℕ} {h k d : Checked}
+    → Says r ws at h → After s ws h k → After t ws k d → Says (r >>= λ a. s >>= λ b. t >>= λ c. give (g a b c)) ws at d
+after-two {r = r} {s = s} {t = t} g {ws} {at} {h} {k} {d} x y z =
+    by-ok h (λ e. then x e (λ a. after (g a) (y .goes-on e) z))
+    (λ e. let q = y .refused e in
+    subst (λ (c : Checked). Says (r >>= λ a. s >>= λ b. t >>= λ c. give (g a b c)) ws at c) (sym (z .refused (ap (λ (c : Checked). c .ok) q ∙ e) ∙ q)) (stop _ x e))
 
 -- something is made of what was read before
 pub given : {A : Type 0} (a : A) {ws : List ℕ} {c : Checked} → c .ok ≡ true → Says (give a) ws (c .next) c

@@ -30,6 +30,11 @@ Agrees ws (some p) c = (c .ok ≡ true) × (p .1 ≡ rest-at ws (c .next))
 pub record Says {A : Type 0} (r : Reader A) (ws : List ℕ) (at : ℕ) (c : Checked) : Type 0 where
   pub is : Agrees ws (r (rest-at ws at)) c
 
+-- d is h where h refuses; else it is what the reader says of the words behind h
+pub record After {A : Type 0} (r : Reader A) (ws : List ℕ) (h d : Checked) : Type 0 where
+  pub refused : h .ok ≡ false → d ≡ h
+  pub goes-on : h .ok ≡ true → Says r ws (h .next) d
+
 -- in a loop: what is said of the reading that is left, from `next` on, is said of the whole, from `at` on
 pub record Left {A B : Type 0} (left : Reader A) (next : ℕ) (whole : Reader B) (ws : List ℕ) (at : ℕ) : Type 0 where
   pub so : (d : Checked) → Says left ws next d → Says whole ws at d

@@ -10,7 +10,7 @@ use Rattle.rules.specs.Kinds.{type-kind}
 use Rattle.laws.specs.Good.{Good, GoodExpr}
 use Rattle.reading.specs.Stands.{Stands}
 use Rattle.pool_types.specs.TypeAt.{shape}
-use Rattle.pool_types.specs.TypeExprAt.{expr-shape}
+use Rattle.pool_type_exprs.specs.TypeExprAt.{expr-shape}
 
 module _ {ws : List ℕ} {c : ℕ} {xs : List ℕ} {at n : ℕ} (s : Stands ws (c ∷ xs) at n) where
   -- the first word, and the others behind it

@@ -16,7 +16,7 @@ use Rattle.reading.specs.Sections.{length-section}
 use Rattle.layout.specs.declared.Layout.{Layout}
 use Rattle.layout.specs.Open.{pool-words}
 use Rattle.stored.specs.Heads.{expr-head, expr-inside}
-use Rattle.pool_types.specs.TypeExprAt.{expr-shape}
+use Rattle.pool_type_exprs.specs.TypeExprAt.{expr-shape}
 use Rattle.subst.specs.declared.leaves.Resolved.{Resolved}
 use Rattle.subst.specs.Says.{Fails, Says}
 use Rattle.subst.specs.Nodes.{At, Each, Substitutes, Leaves, Names, Qualifieds, Ones, Fixeds, Twos, Generics}

@@ -10,7 +10,7 @@ use Rattle.rules.specs.declared.kinds.TypeKind.{TypeKind}
 use Rattle.laws.specs.Good.{GoodExpr}
 use Rattle.laws.specs.Types.{Stored}
 use Rattle.reading.specs.Stands.{Stands}
-use Rattle.pool_types.specs.TypeExprAt.{expr-shape}
+use Rattle.pool_type_exprs.specs.TypeExprAt.{expr-shape}
 use Rattle.stored.specs.Heads.{head, tail, first, second}
 use Rattle.lookups.specs.Aliases.{Expr-stands}
 

@@ -80,7 +80,7 @@ pub fn poison(image: &[u8], l: Layout, at: usize, left: u32) -> Resolved
 {
     let pool = l.pool;
     let names = l.names;
-    let c = pool_types::expressions::check_type_expr(image, pool, at, names.rows);
+    let c = pool_type_exprs::check_type_expr(image, pool, at, names.rows);
     Resolved {
         ok: true,
         next: c.next,

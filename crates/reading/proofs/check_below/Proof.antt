@@ -1,3 +1,4 @@
+-- `reading::check_below` meets its contract: the answers follow the reader's steps.
 use borrow.Author.Tests.{not-true, not-false}
 use Rattle.reading.specs.Says.{below-in, below-over, below-past}
 use borrow.Author.Needs.{needs}

@@ -1,3 +1,4 @@
+-- `reading::check_count` meets its contract: the answers follow the reader's steps.
 use native.Mathlib.Omega.{arith}
 use borrow.Author.Tests.{not-true, not-false}
 use Rattle.reading.specs.Says.{below-in, below-over, below-past}

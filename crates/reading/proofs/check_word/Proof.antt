@@ -1,3 +1,4 @@
+-- `reading::check_word` meets its contract: the answers follow the reader's steps.
 use Rattle.reading.specs.Says.{word-in, word-out}
 use borrow.Author.Needs.{needs}
 use Rattle.reading.proofs.check_word.Statement.{statement}

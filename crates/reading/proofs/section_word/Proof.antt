@@ -1,3 +1,4 @@
+-- `reading::section_word` meets its contract: the word of the section is the word at its byte of the image.
 use mathlib.Core.Path.{_∙_}
 use Rattle.reading.specs.Sections.{section-at, section-past}
 use borrow.Author.Needs.{needs}

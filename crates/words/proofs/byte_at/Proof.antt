@@ -1,3 +1,4 @@
+-- `words::byte_at` meets its contract: the bytes of a word, one by one.
 use native.Mathlib.Omega.{arith}
 use mathlib.Core.Path.{refl, sym}
 use lib.ListN.{List·getD-eq-default}

@@ -1,3 +1,4 @@
+-- `words::put_word` meets its contract: four stores are one splice.
 use mathlib.Core.Path.{_≡_, refl, sym, ap, _∙_}
 use mathlib.Core.Logic.{⊎-elim}
 use denote.Ref.{now}

@@ -1,3 +1,4 @@
+-- `words::word_at` meets its contract: the bytes of a word, one by one.
 use Rattle.words.specs.Words.{past}
 use denote.Ref.{now}
 use borrow.Author.Needs.{needs}

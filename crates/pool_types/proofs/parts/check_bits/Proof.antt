@@ -1,15 +1,14 @@
+-- `pool_types::parts::check_bits` meets its contract: the answers follow the reader's steps.
 use Rattle.rules.specs.ReadTypes.{bits-inline}
 use Rattle.reading.specs.Says.{last}
 use borrow.Author.Needs.{needs}
 use Rattle.pool_types.proofs.parts.check_bits.Statement.{statement}
 use Rattle.pool_types.proofs.parts.check_bits.Tie as tie
 
-check-names-requires : tie.Need-check-names-requires
-check-names-requires c κs = search needs
-
-returns : tie.Need-returns
-unfolding bits-inline
-returns c = last _ (c .check-names .ensures)
-
 pub check-bits-spec : {M : Type 1} → statement M
-check-bits-spec = tie.close (tie.spec check-names-requires returns)
+unfolding bits-inline
+check-bits-spec =
+    tie.close
+    (tie.spec
+    (λ c κs. search needs)
+    (λ c. last _ (c .check-names .ensures)))

@@ -1,3 +1,4 @@
+-- `pool_types::resolved::check_param` meets its contract: the answers follow the reader's steps.
 use borrow.Author.Tests.{not-true, not-false}
 use Rattle.rules.specs.ReadTypes.{param}
 use Rattle.reading.specs.Says.{then, stop, last}
@@ -5,19 +6,12 @@ use borrow.Author.Needs.{needs}
 use Rattle.pool_types.proofs.resolved.check_param.Statement.{statement}
 use Rattle.pool_types.proofs.resolved.check_param.Tie as tie
 
-check-below-requires : tie.Need-check-below-requires
-check-below-requires c κs = search needs
-
-returns : tie.Need-returns
-unfolding param
-returns c = stop _ (c .before .before .check-below .ensures) (not-true _ (c .if1 .taken))
-
-check-type-requires : tie.Need-check-type-requires
-check-type-requires c κs = search needs
-
-returns-2 : tie.Need-returns-2
-unfolding param
-returns-2 c = then (c .before .before .before .check-below .ensures) (not-false _ (c .before .if1 .left)) (λ n. last _ (c .check-type .ensures))
-
 pub check-param-spec : {M : Type 1} → statement M
-check-param-spec = tie.close (tie.spec check-below-requires returns check-type-requires returns-2)
+unfolding param
+check-param-spec =
+    tie.close
+    (tie.spec
+    (λ c κs. search needs)
+    (λ c. stop _ (c .before .before .check-below .ensures) (not-true _ (c .if1 .taken)))
+    (λ c κs. search needs)
+    (λ c. then (c .before .before .before .check-below .ensures) (not-false _ (c .before .if1 .left)) (λ n. last _ (c .check-type .ensures))))

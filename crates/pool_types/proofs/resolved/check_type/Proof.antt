@@ -1,3 +1,4 @@
+-- `pool_types::resolved::check_type` meets its contract: the answers follow the reader's steps.
 use native.Mathlib.Omega.{arith}
 use borrow.Author.Tests.{not-true, not-false}
 use Rattle.rules.specs.ReadTypes.{resolved-type}
@@ -6,24 +7,13 @@ use borrow.Author.Needs.{needs}
 use Rattle.pool_types.proofs.resolved.check_type.Statement.{statement}
 use Rattle.pool_types.proofs.resolved.check_type.Tie as tie
 
-check-tree-requires : tie.Need-check-tree-requires
-check-tree-requires c κs = search needs
-
-returns : tie.Need-returns
-unfolding resolved-type
-returns c = sized-stop (c .before .before .check-tree .ensures) (not-true _ (c .if1 .taken))
-
-less-requires : tie.Need-less-requires
-less-requires c κs = search needs
-
-returns-2 : tie.Need-returns-2
-unfolding resolved-type
-returns-2 c = sized-in (c .before .before .before .before .check-tree .ensures) (not-false _ (c .before .before .if1 .left)) (omega arith)
-
-returns-3 : tie.Need-returns-3
-unfolding resolved-type
-returns-3 c = sized-over (c .before .before .before .before .check-tree .ensures) (not-false _ (c .before .before .if1 .left)) (omega arith)
-
 pub check-type-spec : {M : Type 1} → statement M
+unfolding resolved-type
 check-type-spec =
-    tie.close (tie.spec check-tree-requires returns less-requires returns-2 returns-3)
+    tie.close
+    (tie.spec
+    (λ c κs. search needs)
+    (λ c. sized-stop (c .before .before .check-tree .ensures) (not-true _ (c .if1 .taken)))
+    (λ c κs. search needs)
+    (λ c. sized-in (c .before .before .before .before .check-tree .ensures) (not-false _ (c .before .before .if1 .left)) (omega arith))
+    (λ c. sized-over (c .before .before .before .before .check-tree .ensures) (not-false _ (c .before .before .if1 .left)) (omega arith)))

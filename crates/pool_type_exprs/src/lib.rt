@@ -1,10 +1,36 @@
-// Type expressions in the pool, alone and with names before them.
+// Whether a type expression stands in the pool, as the rules read it, alone and with a name before it.
 use reading::Checked;
 use reading::Section;
 use rules::kinds::TypeKind;
-ghost use Rattle.rules.specs.Reader.{many};
-ghost use Rattle.rules.specs.ReadTypes.{type-expr-tree, type-expr, param};
-ghost use Rattle.reading.specs.Verdict.{section-words, Lies, Says};
+ghost use Rattle.rules.specs.Reader.{fail, many};
+ghost use Rattle.rules.specs.ReadTypes.{type-expr-node, type-expr-tree, type-expr, param};
+ghost use Rattle.rules.specs.declared.kinds.TypeKind.the-variants.{Qualified};
+ghost use Rattle.reading.specs.Verdict.{section-words, Lies, Says, After};
+
+// A type expression, at most `depth` deep, behind what h found.
+pub fn check_expr_part(image: &[u8], pool: Section, h: Checked, names: u32, depth: u32) -> Checked
+    requires { ⌜ Lies (now image) pool ⌝ }
+    ensures { λ r. ⌜ After (type-expr-tree names depth) (section-words (now (image .entry)) pool) h r ⌝ }
+{
+    if !h.ok {
+        return h;
+    }
+    let n = h.next;
+    check_type_expr_tree(image, pool, n, names, depth)
+}
+
+// A namespace and a name.
+pub fn check_qualified(image: &[u8], pool: Section, at: usize, names: u32) -> Checked
+    requires { ⌜ Lies (now image) pool ⌝ }
+    ensures { λ r. ⌜ Says (type-expr-node names fail Qualified 49) (section-words (now (image .entry)) pool) at r ⌝ }
+{
+    let h = reading::check_below(image, pool, at, names);
+    if !h.ok {
+        return h;
+    }
+    let n = h.next;
+    reading::check_below(image, pool, n, names)
+}
 
 // A type expression, at most `depth` deep.
 pub fn check_type_expr_tree(
@@ -25,45 +51,36 @@ pub fn check_type_expr_tree(
         return a;
     }
     let n = a.next;
+    let d = depth - 1;
     let k = kinds::type_kind(reading::section_word(image, pool, at));
     match k {
         TypeKind::Plain => a,
-        TypeKind::Sub => crate::parts::check_sub(image, pool, n),
-        TypeKind::Bits => crate::parts::check_bits(image, pool, n, names),
+        TypeKind::Sub => pool_types::parts::check_sub(image, pool, n),
+        TypeKind::Bits => pool_types::parts::check_bits(image, pool, n, names),
         TypeKind::Named => reading::check_below(image, pool, n, names),
-        TypeKind::Qualified => {
-            let h = reading::check_below(image, pool, n, names);
-            if !h.ok {
-                return h;
-            }
-            let m = h.next;
-            reading::check_below(image, pool, m, names)
-        }
-        TypeKind::Generic => {
-            let h = reading::check_below(image, pool, n, names);
-            if !h.ok {
-                return h;
-            }
-            let m = h.next;
-            check_type_expr_tree(image, pool, m, names, depth - 1)
-        }
-        TypeKind::One => check_type_expr_tree(image, pool, n, names, depth - 1),
-        TypeKind::Fixed => {
-            let h = crate::parts::check_wide(pool, n);
-            if !h.ok {
-                return h;
-            }
-            let m = h.next;
-            check_type_expr_tree(image, pool, m, names, depth - 1)
-        }
-        TypeKind::Two => {
-            let h = check_type_expr_tree(image, pool, n, names, depth - 1);
-            if !h.ok {
-                return h;
-            }
-            let m = h.next;
-            check_type_expr_tree(image, pool, m, names, depth - 1)
-        }
+        TypeKind::Qualified => check_qualified(image, pool, n, names),
+        TypeKind::Generic => check_expr_part(
+            image,
+            pool,
+            reading::check_below(image, pool, n, names),
+            names,
+            d,
+        ),
+        TypeKind::One => check_type_expr_tree(image, pool, n, names, d),
+        TypeKind::Fixed => check_expr_part(
+            image,
+            pool,
+            pool_types::parts::check_wide(pool, n),
+            names,
+            d,
+        ),
+        TypeKind::Two => check_expr_part(
+            image,
+            pool,
+            check_type_expr_tree(image, pool, n, names, d),
+            names,
+            d,
+        ),
         TypeKind::Unknown => Checked { ok: false, next: 0 },
     }
 }
