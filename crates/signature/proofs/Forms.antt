@@ -9,7 +9,7 @@ use Rattle.rules.specs.Syntax.{ResolvedType, TypeExpr, TraitReturn, CompiledSch
 use Rattle.rules.specs.Substitute.{Counted, too-large, done, after, substitute-type}
 use Rattle.rules.specs.Signatures.{resolve-return}
 use Rattle.pool_types.specs.TypeAt.{Type-stands}
-use Rattle.pool_types.specs.TypeExprAt.{Type-expr-stands}
+use Rattle.pool_type_exprs.specs.TypeExprAt.{Type-expr-stands}
 use Rattle.pool_definitions.specs.DefinitionAt.{Trait-return-at}
 
 -- a type as a return

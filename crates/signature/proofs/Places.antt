@@ -12,7 +12,7 @@ use Rattle.reading.specs.Sections.{length-section}
 use Rattle.layout.specs.declared.Layout.{Layout}
 use Rattle.layout.specs.Rows.{Inside}
 use Rattle.layout.specs.Open.{pool-words}
-use Rattle.pool_types.specs.TypeExprAt.{Type-expr-stands}
+use Rattle.pool_type_exprs.specs.TypeExprAt.{Type-expr-stands}
 use Rattle.held.specs.Holds.{Holds}
 use Rattle.lookups.specs.Aliases.{Expr-stands}
 use Rattle.subst.specs.declared.whole.Substituted.{Substituted}

@@ -5,7 +5,7 @@ use Rattle.rules.specs.Syntax.{ResolvedType, TypeExpr, TraitReturn, TraitFnDef,
 use Rattle.reading.specs.Gives.{Counted}
 use Rattle.layout.specs.declared.Layout.{Layout}
 use Rattle.layout.specs.Open.{Open, pool-words}
-use Rattle.pool_types.specs.TypeExprAt.{Type-expr-stands}
+use Rattle.pool_type_exprs.specs.TypeExprAt.{Type-expr-stands}
 use Rattle.pool_types.specs.ParamAt.{Param-at}
 use Rattle.pool_definitions.specs.DefinitionAt.{Trait-return-at, Trait-function-stands}
 use Rattle.scope.specs.Views.{Views}
