@@ -1,0 +1,4 @@
+-- Laws of answers.
+pub mod Fields
+pub mod Details
+pub mod Calls

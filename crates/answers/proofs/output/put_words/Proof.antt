@@ -1,0 +1,73 @@
+use borrow.Author.Needs.{needs}
+use mathlib.Core.Path.{_≡_, refl, sym, ap, ap₂, _∙_}
+use Prim.Native.Nat.{ℕ, _+_, _*_, _-_, _≤_}
+use native.Mathlib.Omega.{arith}
+use lib.ListN.{length, take, getD}
+use lib.Seq.{take-all}
+use mathlib.Core.List.{List}
+use denote.Ref.{now}
+use Rattle.words.specs.Puts.{put, puts, puts-step, length-puts}
+use Rattle.answers.proofs.output.put_words.Statement.{statement}
+use Rattle.answers.proofs.output.put_words.Tie as tie
+
+abbrev Inv-loop : tie.InvT-loop
+Inv-loop out₀ at run limit i₀ next₀ out i next = (i ≤ length run) × (next ≡ at + 4 * i) × (out ≡ puts (length out₀) at (take i run) out₀) × (length out ≡ length out₀)
+
+abbrev μ-loop : tie.MeasureT-loop
+μ-loop out₀ at run limit i₀ next₀ out i next = length run - i
+
+loop-holds : tie.Need-loop-holds Inv-loop μ-loop
+unfolding puts
+loop-holds c = (search needs, omega arith, refl, refl)
+
+mul-put-word : tie.Need-mul-put-word Inv-loop μ-loop
+mul-put-word c = search needs
+
+shared-slice-read-put-word : tie.Need-shared-slice-read-put-word Inv-loop μ-loop
+shared-slice-read-put-word c = search needs
+
+put-word-requires : tie.Need-put-word-requires Inv-loop μ-loop
+put-word-requires c κs = search needs
+
+add-i : tie.Need-add-i Inv-loop μ-loop
+add-i c = search needs
+
+loop-less : tie.Need-loop-less Inv-loop μ-loop
+loop-less c = search needs
+
+loop-again : tie.Need-loop-again Inv-loop μ-loop
+loop-again c = let call = c .before .before .put-word in
+    let l = c .before .before .before .before .before .before .loop in
+    let a = c .before .before .before .before .before .before .before .before .before .args in (
+      search needs,
+      omega arith,
+      call .ensures .1
+          ∙ ap₂ (λ (k : ℕ) (o : List ℕ). put (length (now (a .out))) k (getD (now (a .run)) (l .i) 0) o) (l .inv .1) (l .inv .2)
+          ∙ puts-step (length (now (a .out))) (a .at) (now (a .run)) (l .i) (now (a .out)) (omega arith),
+      call .kept .0 ∙ l .inv .3,
+    )
+
+same-length : tie.Need-same-length Inv-loop μ-loop
+same-length c = c .before .loop .inv .3
+
+returns : tie.Need-returns Inv-loop μ-loop
+returns c = let l = c .before .loop in
+    let a = c .before .before .before .before .args in
+    let e : l .i ≡ length (now (a .run)) = omega arith in
+    record { place = omega arith; bytes = l .inv .2 ∙ ap (λ (k : List ℕ). puts (length (now (a .out))) (a .at) k (now (a .out))) (take-all (l .i) (now (a .run)) (omega arith)) }
+
+pub put-words-spec : {M : Type 1} → statement M
+put-words-spec =
+    tie.close
+    (tie.spec
+    Inv-loop
+    μ-loop
+    loop-holds
+    mul-put-word
+    shared-slice-read-put-word
+    put-word-requires
+    add-i
+    loop-less
+    loop-again
+    same-length
+    returns)

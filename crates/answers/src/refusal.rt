@@ -1,0 +1,80 @@
+// A refusal: its number, its names, its detail words.
+use rules::ids::NameId;
+ghost use mathlib.Core.Path.{_≡_};
+ghost use mathlib.Core.List.{[], _∷_};
+ghost use Prim.Native.Nat.{_≤_};
+ghost use lib.ListN.{length};
+ghost use Rattle.rules.specs.Words.{bytes-of, over-start};
+ghost use Rattle.rules.specs.Refusal.{refusal, in-function, with-name, with-detail};
+ghost use Rattle.answers.specs.Refusals.{detail-of, refusal-of};
+
+pub struct Refusal {
+    pub number: u32,
+    pub function: NameId,
+    pub second: NameId,
+    pub words: [u32; 131],
+    pub count: usize,
+}
+
+impl Refusal {
+    // With neither name.
+    pub fn alone(number: u32) -> Refusal
+        ensures { λ r. ⌜ refusal-of r ≡ refusal number ⌝ }
+    {
+        Refusal::named(number, NameId::NONE, NameId::NONE)
+    }
+
+    // In a function.
+    pub fn at(number: u32, function: NameId) -> Refusal
+        ensures { λ r. ⌜ refusal-of r ≡ in-function number (function .0) ⌝ }
+    {
+        Refusal::named(number, function, NameId::NONE)
+    }
+
+    // With a second name.
+    pub fn named(number: u32, function: NameId, second: NameId) -> Refusal
+        ensures { λ r. ⌜ refusal-of r ≡ with-name number (function .0) (second .0) ⌝ }
+    {
+        Refusal {
+            number,
+            function,
+            second,
+            words: [0u32; 131],
+            count: 0,
+        }
+    }
+
+    // 6, kind 0: the trait's name, its count of type parameters, the implementation's count of type arguments.
+    pub fn counts(function: NameId, expected: u32, found: u32) -> Refusal
+        ensures { λ r. ⌜ refusal-of r ≡ with-detail 6 (function .0) (0 ∷ expected ∷ found ∷ []) ⌝ }
+    {
+        let mut words = [0u32; 131];
+        words[1] = expected;
+        words[2] = found;
+        Refusal {
+            number: 6,
+            function,
+            second: NameId::NONE,
+            words,
+            count: 3,
+        }
+    }
+
+    // How many detail words there are.
+    pub fn size(self) -> usize
+        ensures { λ r. ⌜ (r ≡ length (detail-of self)) × (r ≤ 131) ⌝ }
+    {
+        let n = self.count;
+        if n < 131 { n } else { 131 }
+    }
+}
+
+// Its detail words over the start of the lent detail; the rest stays.
+pub fn write_detail(detail: &mut [u8], r: Refusal)
+    requires { ⌜ 576 ≤ length (now detail) ⌝ }
+    ensures { λ _. ⌜ now (detail .exit) ≡ over-start (bytes-of (detail-of r)) (now (detail .entry)) ⌝ }
+{
+    let n = r.size();
+    let run = r.words;
+    crate::output::put_words(detail, 0, &run[..n]);
+}

@@ -1,0 +1,4 @@
+-- Laws of the signatures that a trait asks for.
+pub mod Lists
+pub mod ListLoop
+pub mod Views

@@ -1,0 +1,8 @@
+-- Laws of a signature's parts.
+pub mod Places
+pub mod Says
+pub mod Sizes
+pub mod ParamLoop
+pub mod Forms
+pub mod Wholes
+pub mod Bounds

@@ -1,0 +1,48 @@
+-- Two passes over one output: the first lends none of it. Assumes nothing.
+use Prim.Native.Nat.{ℕ, _+_, _*_, _<_, _≤_, _^_}
+use mathlib.Core.Path.{_≡_, refl, sym, ap, subst, _∙_}
+use mathlib.Core.List.{List, [], _∷_, _++_}
+use native.Mathlib.Omega.{arith}
+use lib.ListN.{length}
+use Rattle.rules.specs.Refusal.{Result, ok}
+use Rattle.rules.specs.Answer as rules
+use Rattle.rules.specs.Answer.{signatures-call}
+use Rattle.layout.specs.declared.Layout.{Layout}
+use Rattle.layout.specs.Open.{Open}
+use Rattle.laws_answers.specs.Answers.{signatures-bound}
+use Rattle.answers.specs.declared.answer.Answer.{Answer}
+use Rattle.answers.specs.declared.answer.Outcome.{Outcome}
+use Rattle.answers.specs.Answers.{answer-of, AcceptsAll, Agrees, Comes}
+use Rattle.answers.proofs.Calls.{Accepted, is-accepted}
+use Rattle.signatures.specs.Opens.{Opens}
+
+front : (xs ys : List ℕ) → length xs ≡ 0 → xs ++ ys ≡ ys
+front [] ys e = refl
+front (x ∷ xs) ys e = absurd (omega arith)
+
+-- none of the output was lent: all of it stays
+pub untouched : (a : Answer) (xs output detail : List ℕ) {x : rules.Answer} → length xs ≡ 0 → answer-of a output detail ≡ x → answer-of a (xs ++ output) detail ≡ x
+untouched a xs output detail e q = ap (λ (o : List ℕ). answer-of a o detail) (front xs output e) ∙ q
+
+pub untouched-comes : (xs output : List ℕ) {call : Result (ℕ × List ℕ)} {new : List ℕ} {r : Outcome} → length xs ≡ 0 → Comes call (xs ++ output) new r → Comes call output new r
+untouched-comes xs output {call} {new} {r} e c = subst (λ (o : List ℕ). Comes call o new r) (front xs output e) c
+
+pub untouched-length : (xs output : List ℕ) → length xs ≡ 0 → length (xs ++ output) ≡ length output
+untouched-length xs output e = ap length (front xs output e)
+
+-- a second pass of an accepted call is accepted, and has its length
+pub again : {call : Result (ℕ × List ℕ)} {old new older newer : List ℕ} {r q : Outcome} → Accepted call old new r → Comes call older newer q → Accepted call older newer q
+again {older = older} {newer} {q = q} a c = is-accepted c (subst (λ (k : Result (ℕ × List ℕ)). Agrees k older newer q) (a .is) (c .is) .0)
+
+words-same : {p q : ℕ × List ℕ} → ok p ≡ ok q → p .1 ≡ q .1
+words-same {p} {q} e = let m : p ≡ q = cc in ap (λ (x : ℕ × List ℕ). x .1) m
+
+pub one-length : {call : Result (ℕ × List ℕ)} {old new older newer : List ℕ} {r q : Outcome} → Accepted call old new r → Accepted call older newer q → q .length ≡ r .length
+one-length a b = omega (arith, a .writes .place, b .writes .place, ap length (words-same (sym (a .is) ∙ b .is)))
+
+-- an accepted length fits a word
+pub length-fits : {image : List ℕ} {l : Layout} (o : Opens image l) (number : ℕ) {old new : List ℕ} {r : Outcome} → Accepted (signatures-call number (o .schema)) old new r → r .length < 2 ^ 32
+length-fits {image} o number a = omega (arith, a .writes .place, signatures-bound image (o .schema) (o .opened .read) number (a .visits) (a .words) (a .is) .1)
+
+pub visits-same : (a : Answer) (n : ℕ) {v w : ℕ} → v ≡ w → AcceptsAll a n v → AcceptsAll a n w
+visits-same a n e f = subst (AcceptsAll a n) e f
