@@ -78,7 +78,7 @@ none-some e = let z : _≡_ {A = ℕ} 0 1 = cc in omega arith
 -- an image whose trailer is bad, and one whose rows were read
 pub refused : {image : List ℕ} {r : Opened} → r .ok ≡ false → readable image ≡ none → Verdict image r
 unfolding is-some
-refused n e = record { ok = rw e n; opens = λ s h. absurd (none-some (sym e ∙ h)) }
+refused n e = record { ok = rw e n; cut = λ s h. absurd (none-some (sym e ∙ h)); opens = λ s h. absurd (none-some (sym e ∙ h)) }
 
 pub settled : {image : List ℕ} {l : Layout} → Laid image l → {b : Bool} → Says (rows-of image l) [] 0 (verdict b 0) → Verdict image (record { ok = b; layout = l })
 unfolding is-some
@@ -88,7 +88,7 @@ settled {image} {l} laid {b} says = go (rows-of image l (rest-at [] 0)) refl (sa
     go none e a = refused (ap (λ (c : Checked). c .ok) a) (laid .reads ∙ ap value e)
     go (some p) e a =
         let r : readable image ≡ some (p .0) = laid .reads ∙ ap value e in
-        record { ok = rw r (a .0); opens = λ s h. let same : p .0 ≡ s = cc in opened image l (laid .cut) s (p .1) (rw same at e) h }
+        record { ok = rw r (a .0); cut = λ s h. laid .cut; opens = λ s h. let same : p .0 ≡ s = cc in opened image l (laid .cut) s (p .1) (rw same at e) h }
 
 -- the schema of an image that is readable
 pub schema-of : {image : List ℕ} {r : Opened} → Verdict image r → r .ok ≡ true → (s : CompiledSchema) × Open image (r .layout) s

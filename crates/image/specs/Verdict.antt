@@ -7,9 +7,11 @@ use Rattle.rules.specs.Syntax.{CompiledSchema}
 use Rattle.rules.specs.Options.{is-some}
 use Rattle.rules.specs.Image.{readable}
 use Rattle.layout.specs.declared.Opened.{Opened}
+use Rattle.layout.specs.Rows.{Cut}
 use Rattle.layout.specs.Open.{Open}
 
--- ok exactly where the rules read a schema, and then that schema stands by the layout
+-- ok exactly where the rules read a schema, and then the layout cuts the image as 01 has it and that schema stands by it
 pub record Verdict (image : List ℕ) (r : Opened) : Type 0 where
   pub ok : r .ok ≡ is-some (readable image)
+  pub cut : (s : CompiledSchema) → readable image ≡ some s → Cut image (r .layout)
   pub opens : (s : CompiledSchema) → readable image ≡ some s → Open image (r .layout) s
