@@ -11,6 +11,7 @@ use Rattle.reading.specs.Verdict.{Lies, section-words}
 use Rattle.layout.specs.declared.Table.{Table}
 use Rattle.layout.specs.declared.Layout.{Layout}
 use Rattle.layout.specs.declared.NameRow.{NameRow}
+use Rattle.layout.specs.declared.StringRow.{StringRow}
 use Rattle.layout.specs.declared.DefinitionRow.{DefinitionRow}
 
 -- whole rows inside the image
@@ -28,6 +29,14 @@ pub record Inside (image : List ℕ) (l : Layout) : Type 0 where
   pub few-names : l .names .rows ≤ 1024
   pub few-definitions : l .definitions .rows ≤ 256
 
+-- and they are as 01 has them: texts up to the name rows, and rows of so many words
+pub record Cut (image : List ℕ) (l : Layout) : Type 0 where
+  pub inside : Inside image l
+  pub texts : l .texts ≡ l .names .words .start
+  pub names : l .names .width ≡ 4
+  pub strings : l .strings .width ≡ 2
+  pub definitions : l .definitions .width ≡ 2
+
 -- word k of row i, 0 past the rows
 unfoldable pub row-word : List ℕ → Table → ℕ → ℕ → ℕ
 row-word image t i k = cond (ltb i (t .rows) && ltb k (t .width)) (getD (section-words image (t .words)) (t .width * i + k) 0) 0
@@ -37,6 +46,10 @@ pub record IsNameRow (image : List ℕ) (l : Layout) (i : ℕ) (r : NameRow) : T
   pub size : r .size ≡ row-word image (l .names) i 1
   pub definition : r .definition .0 ≡ row-word image (l .names) i 2
   pub alias : r .alias ≡ row-word image (l .names) i 3
+
+pub record IsStringRow (image : List ℕ) (l : Layout) (i : ℕ) (r : StringRow) : Type 0 where
+  pub start : r .start ≡ row-word image (l .strings) i 0
+  pub size : r .size ≡ row-word image (l .strings) i 1
 
 pub record IsDefinitionRow (image : List ℕ) (l : Layout) (d : ℕ) (r : DefinitionRow) : Type 0 where
   pub past : l .definitions .rows ≤ d → r .kind ≡ DefinitionKind.Unknown

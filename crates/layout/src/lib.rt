@@ -4,7 +4,7 @@ use rules::ids::NameId;
 use rules::ids::TypeId;
 use rules::kinds::DefinitionKind;
 ghost use mathlib.Core.Path.{_≡_};
-ghost use Rattle.layout.specs.Rows.{Inside, Fits, row-word, IsNameRow, IsDefinitionRow};
+ghost use Rattle.layout.specs.Rows.{Inside, Fits, row-word, IsNameRow, IsStringRow, IsDefinitionRow};
 
 // A section of rows, each of so many words. How wide a definition row is stands here and nowhere else.
 pub struct Table {
@@ -22,12 +22,24 @@ pub struct Layout {
     pub definitions: Table,
 }
 
+// What a reading of an image comes to: whether the image is readable, and then its layout.
+pub struct Opened {
+    pub ok: bool,
+    pub layout: Layout,
+}
+
 // A name's row: its text, its definition or NONE, its alias's place in the pool or NONE.
 pub struct NameRow {
     pub start: u32,
     pub size: u32,
     pub definition: TypeId,
     pub alias: u32,
+}
+
+// A string's row: its text.
+pub struct StringRow {
+    pub start: u32,
+    pub size: u32,
 }
 
 // A definition's row; past the rows its kind is Unknown.
@@ -62,6 +74,17 @@ pub fn name_row(image: &[u8], l: Layout, x: NameId) -> NameRow
         size: word_of_row(image, t, i, 1),
         definition: TypeId(word_of_row(image, t, i, 2)),
         alias: word_of_row(image, t, i, 3),
+    }
+}
+
+pub fn string_row(image: &[u8], l: Layout, i: u32) -> StringRow
+    requires { ⌜ Inside (now image) l ⌝ }
+    ensures { λ r. ⌜ IsStringRow (now (image .entry)) l i r ⌝ }
+{
+    let t = l.strings;
+    StringRow {
+        start: word_of_row(image, t, i, 0),
+        size: word_of_row(image, t, i, 1),
     }
 }
 

@@ -1,0 +1,4 @@
+pub mod Held
+pub mod Copies
+pub mod Behind
+pub mod Heads
