@@ -9,9 +9,10 @@ use rules::ids::PrimitiveType;
 ghost use mathlib.Core.Path.{_≡_};
 ghost use mathlib.Core.Option.{Option};
 ghost use Prim.Native.Nat.{ℕ, _+_, _*_, _<_};
-ghost use Rattle.rules.specs.Syntax.{ResolvedType, Expr, Exprs};
+ghost use lib.ListN.{getD};
+ghost use Rattle.rules.specs.Syntax.{ResolvedType, Expr};
 ghost use Rattle.rules.specs.Fits.{literal-own};
-ghost use Rattle.rules.specs.Infer.{FunctionContext, infer-expr};
+ghost use Rattle.rules.specs.Infer.{FunctionContext, PortableExprKind, expression-hint, infer-expr};
 ghost use Rattle.held.specs.Holds.{Holds, EachMaybe, MaybeHolds};
 ghost use Rattle.types.specs.Literals.{literal-type};
 ghost use Rattle.layout.specs.Rows.{Inside};
@@ -94,7 +95,7 @@ pub fn infer_place(
     number: u32,
 ) -> Inferred
     requires { ⌜ Inside (now image) l ⌝ }
-    ensures { λ r. ⌜ AtContext (now (image .entry)) l (now (names .entry)) (now (words .entry)) (now (lens .entry)) ctx (λ c. (nest : ℕ) → AtExpr (now (image .entry)) l nest at (λ e n. 0 < number → number < 20 → (o : Option ResolvedType) → MaybeHolds (l .names .rows) expected o → PlacedAt (pool-words (now (image .entry)) l) (l .names .rows) c at number e o context r)) ⌝ }
+    ensures { λ r. ⌜ AtContext (now (image .entry)) l (now (names .entry)) (now (words .entry)) (now (lens .entry)) ctx (λ c. (nest : ℕ) → AtExpr (now (image .entry)) l nest at (λ e n. 0 < number → number < 20 → (o : Option ResolvedType) → MaybeHolds (l .names .rows) expected o → (k : PortableExprKind) → Says (l .names .rows) (c .function) (placed c number (getD (pool-words (now (image .entry)) l) (at + 1) 0) (expression-hint c e) o context k) r)) ⌝ }
 {
     let h = places::expression_hint(image, l, ctx, names, words, lens, at);
     if h.some {

@@ -14,4 +14,4 @@ invalid-operator-spec =
     (tie.spec
     (λ c κs. search needs)
     (λ c. λ names t p f.
-      (λ z. omega arith, ap (λ (a : List ℕ). record { number = 21; function = f; second = NONE; detail = c .before .args .operator ∷ a }) (p .run))))
+    (λ z. omega arith, ap (λ (a : List ℕ). record { number = 21; function = f; second = NONE; detail = c .before .args .operator ∷ a }) (p .run))))

@@ -15,4 +15,4 @@ type-mismatch-spec =
     tie.close
     (tie.spec
     (λ c. λ names t u p q x.
-      (λ z. omega arith, ap₂ (λ (a b : List ℕ). record { number = 20; function = x .function; second = NONE; detail = c .args .context ∷ (a ++ b) }) (p .run) (q .run))))
+    (λ z. omega arith, ap₂ (λ (a b : List ℕ). record { number = 20; function = x .function; second = NONE; detail = c .args .context ∷ (a ++ b) }) (p .run) (q .run))))
