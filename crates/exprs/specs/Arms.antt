@@ -1,23 +1,17 @@
 -- Each kind of expression, by the code that stands there.
-use Prim.Native.Nat.{ℕ, _+_, _<_, _≤_}
+use Prim.Native.Nat.{ℕ, _+_, _<_}
 use native.Mathlib.Omega.{arith}
-use mathlib.Core.Path.{_≡_, refl, sym, ap, subst, _∙_}
-use mathlib.Core.List.{List, [], _∷_}
+use mathlib.Core.Path.{_≡_, subst, _∙_}
+use mathlib.Core.List.{List}
 use mathlib.Core.Option.{Option}
 use lib.ListN.{length, getD}
-use lib.Dec.{lit<, lit≤}
 use Rattle.rules.specs.Syntax.{ResolvedType, Expr, Exprs}
 use Rattle.rules.specs.Types.{BOOL, STRING}
 use Rattle.rules.specs.Kinds.{expr-kind}
 use Rattle.rules.specs.Refusal.{err, with-name}
 use Rattle.rules.specs.Infer.{PortableExprKind, FunctionContext, expression-hint, ended, infer-expr}
 use Rattle.rules.specs.declared.kinds.ExprKind.{ExprKind}
-use Rattle.laws.specs.Runs.{expr-words, nesting}
-use Rattle.held.specs.declared.types.HeldType.{HeldType}
-use Rattle.held.specs.Runs.{Runs}
-use Rattle.held.specs.Holds.{Holds}
-use Rattle.held.proofs.Trees.{plain-holds}
-use Rattle.kinds.proofs.Codes.{primitive-in, semantic-in}
+use Rattle.laws.specs.Runs.{expr-words}
 use Rattle.stored.specs.Heads.{head, tail, inside}
 use Rattle.places.specs.Stood.{Stood}
 use Rattle.places.specs.Nodes.{by-code, local-word, field-word, call-word}
@@ -26,29 +20,10 @@ use Rattle.inferred.specs.Says.{Says}
 use Rattle.inferred.specs.Steps.{says-≡}
 use Rattle.leaves.specs.Placed.{placed, local-placed, self-placed, field-placed}
 
--- an expression is nested at least 1 deep
-pub deep : (e : Expr) → 1 ≤ nesting e
-deep (Expr.literal c low high) = omega arith
-deep (Expr.bool b) = omega arith
-deep (Expr.string s) = omega arith
-deep (Expr.local x) = omega arith
-deep Expr.self-ref = omega arith
-deep (Expr.field-access x e) = omega arith
-deep (Expr.call x es) = omega arith
-deep (Expr.trait-method-call t x e es) = omega arith
-deep (Expr.binary op d e) = omega arith
-deep (Expr.unary op e) = omega arith
-
 -- the method's name
 pub method-word : {names strings : ℕ} {ws : List ℕ} {nest at n t x : ℕ} {e : Expr} {es : Exprs} → Stood names strings ws nest (Expr.trait-method-call t x e es) at n → (at + 1 < length ws) × (getD ws (at + 1 + 1) 0 ≡ x)
 unfolding expr-words
 method-word s = (inside (tail (s .words-at)), head (tail (tail (s .words-at))))
-
-pub bool-held : (names : ℕ) {h : HeldType} → Runs h (0 ∷ []) → Holds names h BOOL
-bool-held names r = plain-holds names r (primitive-in 0 (lit< tt))
-
-pub string-held : (names : ℕ) {h : HeldType} → Runs h (32 ∷ []) → Holds names h STRING
-string-held names r = plain-holds names r (semantic-in 32 (lit≤ tt) (lit< tt))
 
 -- what came of an expression that stands there
 abbrev pub Came : ℕ → ℕ → List ℕ → ℕ → ℕ → ℕ → FunctionContext → Option ResolvedType → ℕ → Inferred → Expr → Type 0

@@ -3,3 +3,4 @@ pub mod InContext
 pub mod PlaceKinds
 pub mod Nodes
 pub mod Hints
+pub mod Operands

@@ -7,7 +7,7 @@ use lib.ListN.{length, getD}
 use Rattle.rules.specs.Syntax.{Expr, Exprs}
 use Rattle.rules.specs.Kinds.{expr-kind}
 use Rattle.rules.specs.declared.kinds.ExprKind.{ExprKind}
-use Rattle.laws.specs.Runs.{count, expr-words, exprs-words, Nested}
+use Rattle.laws.specs.Runs.{expr-words, nesting}
 use Rattle.laws.specs.Expressions.{literal-kind}
 use Rattle.reading.specs.Stands.{Stands}
 use Rattle.pool_bodies.specs.ExprAt.{value-shape}
@@ -43,6 +43,19 @@ own P (Expr.unary op e) h = h op e
 -- so of an expression whose kind is known
 pub by-shape : (P : Expr → Type 0) {k : ExprKind} → Case P k → (e : Expr) → value-shape e ≡ k → P e
 by-shape P h e q = own P e (subst (Case P) (sym q) h)
+
+-- an expression is nested at least 1 deep
+pub deep : (e : Expr) → 1 ≤ nesting e
+deep (Expr.literal c low high) = omega arith
+deep (Expr.bool b) = omega arith
+deep (Expr.string s) = omega arith
+deep (Expr.local x) = omega arith
+deep Expr.self-ref = omega arith
+deep (Expr.field-access x e) = omega arith
+deep (Expr.call x es) = omega arith
+deep (Expr.trait-method-call t x e es) = omega arith
+deep (Expr.binary op d e) = omega arith
+deep (Expr.unary op e) = omega arith
 
 -- the word behind a code
 word-of : {ws : List ℕ} {at n c x : ℕ} {xs : List ℕ} → Stands ws (c ∷ x ∷ xs) at n → (at + 1 < length ws) × (getD ws (at + 1) 0 ≡ x)

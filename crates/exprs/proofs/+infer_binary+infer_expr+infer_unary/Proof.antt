@@ -12,9 +12,11 @@ use Rattle.rules.specs.Infer.{binary-hint, infer-expr}
 use Rattle.layout.specs.Open.{pool-words}
 use Rattle.reading.specs.Sections.{length-section}
 use Rattle.inferred.specs.Says.{Says}
-use Rattle.places.specs.Nodes.{binary-word, unary-word}
-use Rattle.exprs.specs.Arms.{deep, bool-held, string-held, of-literal, of-flag, of-text, of-local, of-self-ref, of-field, of-call, of-method, of-binary, of-unary, of-unknown}
-use Rattle.exprs.specs.Operations.{left-at, right-at, value-at, left-refused, right-refused, both-typed, value-refused, value-typed}
+use Rattle.places.specs.Nodes.{deep, binary-word, unary-word}
+use Rattle.places.specs.Operands.{left-at, right-at, value-at}
+use Rattle.leaves.specs.Plain.{bool-held, string-held}
+use Rattle.exprs.specs.Arms.{of-literal, of-flag, of-text, of-local, of-self-ref, of-field, of-call, of-method, of-binary, of-unary, of-unknown}
+use Rattle.exprs.specs.Operations.{left-refused, right-refused, both-typed, value-refused, value-typed}
 use Prim.Native.Nat.{ℕ, _<_}
 use borrow.Fn.Kinds.{In}
 use borrow.Fn.PlainCycle.{Measures, is, falls, and}
