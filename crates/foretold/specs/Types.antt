@@ -2,17 +2,16 @@
 use Prim.Native.Nat.{ℕ}
 use mathlib.Core.Path.{_≡_, refl, sym, ap, _∙_}
 use mathlib.Core.Bool.{Bool, true, false, cond}
-use mathlib.Core.List.{List}
 use mathlib.Core.Option.{Option, none, some}
 use Rattle.rules.specs.Syntax.{ResolvedType, run, Expr}
-use Rattle.rules.specs.Types.{BOOL, STRING, VOID}
+use Rattle.rules.specs.Types.{BOOL, STRING}
 use Rattle.rules.specs.Fits.{literal-own}
 use Rattle.rules.specs.Options.{or, or-else}
 use Rattle.rules.specs.Refusal.{Result, ok}
 use Rattle.rules.specs.Infer.{PortableExpr, PortableExprKind, typed, type-of, FunctionContext, is-arithmetic, place, place-type, expression-hint, infer-literal, binary-hint, infer-expr}
 use Rattle.laws.specs.Clash.{clash}
 use Rattle.foretold.specs.Foretold.{foretold, left-type}
-use Rattle.foretold.specs.Accepted.{bind-ok, or-ok, ended-typed, ended-run, Operands, operands-of, Value, value-of}
+use Rattle.foretold.specs.Accepted.{bind-ok, or-ok, ended-typed, ended-run, Operands, operands-of, value-of}
 
 module _ (c : FunctionContext) where
   pub under : (e : Expr) (t : ResolvedType) (context : ℕ) (v : PortableExpr) → infer-expr c e (some t) context ≡ ok v → run (type-of v) ≡ run t

@@ -1,6 +1,6 @@
 -- The end of an operation, by its operand's type.
 use Prim.Native.Nat.{ℕ, _+_}
-use mathlib.Core.Path.{_≡_, refl, ap, _∙_}
+use mathlib.Core.Path.{_≡_, ap}
 use mathlib.Core.Bool.{Bool, true, false, cond}
 use mathlib.Core.List.{_∷_}
 use mathlib.Core.Option.{Option}
@@ -8,7 +8,7 @@ use lib.Dec.{eqb}
 use Rattle.rules.specs.Syntax.{ResolvedType, run}
 use Rattle.rules.specs.Words.{within}
 use Rattle.rules.specs.Types.{BOOL, is-numeric, is-signed-numeric, is-equality-type, same-type}
-use Rattle.rules.specs.Refusal.{Result, ok, err, ensure, _>>=_, with-detail}
+use Rattle.rules.specs.Refusal.{Result, err, ensure, _>>=_, with-detail}
 use Rattle.rules.specs.Infer.{PortableExpr, PortableExprKind, FunctionContext, is-arithmetic, operand-allowed, unary-allowed, ended}
 
 -- a binary's, once both operands are typed

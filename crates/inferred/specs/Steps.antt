@@ -2,22 +2,21 @@
 use Prim.Native.Nat.{ℕ, _<_}
 use native.Mathlib.Omega.{arith}
 use mathlib.Core.Path.{_≡_, refl, sym, ap, subst, _∙_}
-use mathlib.Core.Bool.{Bool, true, false, false≢true}
-use mathlib.Core.List.{List, [], _∷_, _++_}
+use mathlib.Core.Bool.{Bool, true, false}
+use mathlib.Core.List.{List}
 use mathlib.Core.Option.{Option, none, some}
 use borrow.Author.Tests.{ne-eqb}
-use Rattle.rules.specs.Syntax.{ResolvedType, run}
+use Rattle.rules.specs.Syntax.{ResolvedType}
 use Rattle.rules.specs.Types.{same-type}
-use Rattle.rules.specs.Refusal.{Refusal, Result, ok, err, _>>=_, with-name, with-detail}
+use Rattle.rules.specs.Refusal.{Result, ok, err, _>>=_, with-name}
 use Rattle.rules.specs.Infer.{PortableExpr, PortableExprKind, typed, type-of, FunctionContext, type-mismatch, ensure-same-type, ended}
 use Rattle.held.specs.declared.types.HeldType.{HeldType}
-use Rattle.held.specs.Runs.{held-run}
 use Rattle.held.specs.Holds.{Holds, MaybeHolds}
 use Rattle.held.specs.declared.types.MaybeType.{MaybeType}
 use Rattle.held.proofs.Maybe.{some-of, none-of}
 use Rattle.types.specs.Tests.{Same}
 use Rattle.inferred.specs.declared.answers.Inferred.{Inferred}
-use Rattle.inferred.specs.Says.{refusal-of, Says}
+use Rattle.inferred.specs.Says.{Says}
 
 -- a step that refused, and one that accepted
 module _ (names f : ℕ) where

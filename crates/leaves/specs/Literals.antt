@@ -1,16 +1,14 @@
 -- Literals: the words that stand there, and what their typing comes to.
 use Prim.Native.Nat.{ℕ, _+_, _*_, _<_}
-use native.Mathlib.Omega.{arith}
-use mathlib.Core.Path.{_≡_, refl, sym, ap, subst, _∙_}
-use mathlib.Core.Bool.{true, false, false≢true}
+use mathlib.Core.Path.{_≡_, refl, ap, _∙_}
+use mathlib.Core.Bool.{true, false}
 use mathlib.Core.List.{List, [], _∷_}
 use mathlib.Core.Option.{Option, none, some}
 use lib.ListN.{length, getD}
-use lib.Dec.{lit<}
 use borrow.Author.Tests.{eq-eqb, ne-eqb}
 use Rattle.rules.specs.Syntax.{ResolvedType, Expr}
 use Rattle.rules.specs.Fits.{literal-own}
-use Rattle.rules.specs.Refusal.{Result, ok, err, _>>=_}
+use Rattle.rules.specs.Refusal.{Result, _>>=_}
 use Rattle.rules.specs.Infer.{PortableExpr, PortableExprKind, FunctionContext, type-mismatch, ended, infer-literal, infer-expr}
 use Rattle.laws.specs.Runs.{expr-words}
 use Rattle.laws.specs.Clash.{clash}
@@ -18,7 +16,7 @@ use Rattle.held.specs.declared.types.HeldType.{HeldType}
 use Rattle.held.specs.declared.types.MaybeType.{MaybeType}
 use Rattle.held.specs.Runs.{Runs}
 use Rattle.held.specs.Holds.{Holds, MaybeHolds}
-use Rattle.held.proofs.Maybe.{Some, some-of, none-of}
+use Rattle.held.proofs.Maybe.{some-of, none-of}
 use Rattle.held.proofs.Trees.{plain-holds}
 use Rattle.kinds.proofs.Codes.{primitive-in}
 use Rattle.types.specs.Literals.{literal-type}

@@ -1,10 +1,10 @@
 -- Places: an expression that has its type by itself, or a refusal with its name.
-use Prim.Native.Nat.{ℕ, _<_}
-use mathlib.Core.Path.{_≡_, refl, sym, ap, subst, _∙_}
+use Prim.Native.Nat.{ℕ}
+use mathlib.Core.Path.{_≡_, refl, ap}
 use mathlib.Core.Bool.{true, false}
-use mathlib.Core.Option.{Option, none, some}
+use mathlib.Core.Option.{Option, some}
 use Rattle.rules.specs.Syntax.{ResolvedType, Expr}
-use Rattle.rules.specs.Refusal.{Result, ok, err, _>>=_, or-refuse, with-name}
+use Rattle.rules.specs.Refusal.{Result, err, _>>=_, or-refuse, with-name}
 use Rattle.rules.specs.Infer.{PortableExpr, PortableExprKind, FunctionContext, place, place-type, expression-hint, ended, infer-expr}
 use Rattle.held.specs.declared.types.MaybeType.{MaybeType}
 use Rattle.held.specs.Holds.{Holds, MaybeHolds}

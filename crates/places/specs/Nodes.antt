@@ -2,7 +2,7 @@
 use Prim.Native.Nat.{ℕ, _+_, _-_, _<_, _≤_}
 use native.Mathlib.Omega.{arith}
 use mathlib.Core.Path.{_≡_, refl, sym, ap, subst, _∙_}
-use mathlib.Core.List.{List, [], _∷_, _++_}
+use mathlib.Core.List.{List, _∷_}
 use lib.ListN.{length, getD}
 use Rattle.rules.specs.Syntax.{Expr, Exprs}
 use Rattle.rules.specs.Kinds.{expr-kind}
@@ -41,7 +41,7 @@ own P (Expr.binary op d e) h = h op d e
 own P (Expr.unary op e) h = h op e
 
 -- so of an expression whose kind is known
-pub by-shape : (P : Expr → Type 0) {k : ExprKind} → Case P k → (e : Expr) → value-shape e ≡ k → P e
+by-shape : (P : Expr → Type 0) {k : ExprKind} → Case P k → (e : Expr) → value-shape e ≡ k → P e
 by-shape P h e q = own P e (subst (Case P) (sym q) h)
 
 -- an expression is nested at least 1 deep

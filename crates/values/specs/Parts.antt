@@ -1,13 +1,12 @@
 -- The words of an accepted value, by its parts.
 use Prim.Native.Nat.{ℕ, _+_}
-use native.Mathlib.Omega.{arith}
 use mathlib.Core.Path.{_≡_, refl, sym, ap, subst, _∙_}
 use mathlib.Core.List.{List, [], _∷_, _++_}
-use mathlib.Core.Option.{Option, none, some}
+use mathlib.Core.Option.{Option}
 use lib.ListN.{length, getD}
 use Rattle.rules.specs.Syntax.{ResolvedType, run, Expr}
 use Rattle.rules.specs.Kinds.{expr-kind}
-use Rattle.rules.specs.Refusal.{Result, ok}
+use Rattle.rules.specs.Refusal.{ok}
 use Rattle.rules.specs.Infer.{PortableExpr, PortableExprKind, typed, type-of, FunctionContext, infer-expr}
 use Rattle.rules.specs.Output.{value-words, kind-words}
 use Rattle.rules.specs.declared.kinds.ExprKind.{ExprKind}

@@ -1,5 +1,4 @@
 -- `fields::pick` meets its contract. Assumes nothing.
-use borrow.Author.Needs.{needs}
 use borrow.Author.Tests.{eq-eqb, ne-eqb}
 use Rattle.fields.proofs.pick.Statement.{statement}
 use Rattle.fields.proofs.pick.Tie as tie

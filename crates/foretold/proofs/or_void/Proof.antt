@@ -1,7 +1,6 @@
 -- `foretold::or_void` meets its contract. Assumes nothing.
 use borrow.Author.Needs.{needs}
 use mathlib.Core.Path.{sym, subst}
-use Rattle.rules.specs.Syntax.{ResolvedType}
 use Rattle.rules.specs.Types.{VOID}
 use Rattle.held.specs.Holds.{Holds}
 use Rattle.leaves.specs.Plain.{void-held}

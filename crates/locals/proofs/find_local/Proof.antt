@@ -1,11 +1,9 @@
 -- `locals::find_local` meets its contract. The loop's invariant: no row from i on has the name. Assumes nothing.
 use borrow.Author.Needs.{needs}
-use Prim.Native.Nat.{ℕ, _≤_, _+_}
-use mathlib.Core.Path.{_≡_}
+use Prim.Native.Nat.{_≤_}
 use native.Mathlib.Omega.{arith}
-use native.Mathlib.Decide.{decLe}
 use denote.Ref.{now}
-use lib.ListN.{length, getD}
+use lib.ListN.{length}
 use Rattle.locals.specs.Finds.{Apart, apart-more, search-found, search-none, short}
 use Rattle.locals.proofs.find_local.Statement.{statement}
 use Rattle.locals.proofs.find_local.Tie as tie

@@ -1,7 +1,6 @@
 -- `places::expression_hint` meets its contract. Assumes nothing.
 use borrow.Author.Needs.{needs}
-use mathlib.Core.Path.{_≡_, sym, ap, _∙_}
-use Rattle.held.specs.Holds.{Holds}
+use mathlib.Core.Path.{sym, ap, _∙_}
 use Rattle.places.specs.PlaceKinds.{place-kind}
 use Rattle.places.specs.Hints.{at-local, at-own, at-field, at-nowhere}
 use Rattle.places.proofs.expression_hint.Statement.{statement}

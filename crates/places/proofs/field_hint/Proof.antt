@@ -1,7 +1,7 @@
 -- `places::field_hint` meets its contract. Assumes nothing.
 use borrow.Author.Needs.{needs}
 use native.Mathlib.Omega.{arith}
-use mathlib.Core.Path.{_≡_, sym, ap, _∙_}
+use mathlib.Core.Path.{sym, ap, _∙_}
 use Rattle.laws.specs.Clash.{clash}
 use Rattle.reading.specs.Sections.{length-section}
 use Rattle.places.specs.PlaceKinds.{place-kind}

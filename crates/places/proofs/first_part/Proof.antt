@@ -1,7 +1,7 @@
 -- `places::first_part` meets its contract. Assumes nothing.
 use borrow.Author.Needs.{needs}
 use native.Mathlib.Omega.{arith}
-use mathlib.Core.Path.{_∙_, ap}
+use mathlib.Core.Path.{_∙_}
 use Rattle.places.proofs.first_part.Statement.{statement}
 use Rattle.places.proofs.first_part.Tie as tie
 

@@ -4,12 +4,11 @@ use Prim.Native.Nat.{ℕ, _+_, _*_, _<_}
 use native.Mathlib.Omega.{arith}
 use mathlib.Core.Path.{_≡_, refl, sym, ap, subst, _∙_}
 use mathlib.Core.List.{[], _∷_}
-use mathlib.Core.Option.{Option}
 use denote.Ref.{now}
 use lib.ListN.{length}
-use Rattle.rules.specs.Syntax.{ResolvedType, run, Expr}
+use Rattle.rules.specs.Syntax.{run, Expr}
 use Rattle.rules.specs.Kinds.{expr-kind}
-use Rattle.rules.specs.Infer.{PortableExpr, type-of, infer-expr}
+use Rattle.rules.specs.Infer.{type-of, infer-expr}
 use Rattle.held.specs.Runs.{Runs}
 use Rattle.layout.specs.Open.{pool-words}
 use Rattle.reading.specs.Sections.{length-section}
@@ -17,7 +16,6 @@ use Rattle.places.specs.Nodes.{deep, binary-word}
 use Rattle.places.specs.Operands.{left-at, right-at, value-at}
 use Rattle.foretold.specs.Foretold.{left-type}
 use Rattle.foretold.specs.Accepted.{operands-of, value-of}
-use Rattle.rules.specs.Output.{value-words}
 use Rattle.values.specs.Writes.{leaf-size}
 use Rattle.values.specs.Parts.{written-value, leaf-of, at-binary, at-unary, binary-head, unary-head, written-binary, written-unary, left-runs, right-runs, value-runs}
 use Prim.Native.Nat.{ℕ, _<_}
