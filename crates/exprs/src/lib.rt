@@ -168,6 +168,7 @@ fn infer_binary(
         return a;
     }
     let ty = a.ty;
+    let under = MaybeType::some(ty);
     let b = infer_expr(
         image,
         l,
@@ -177,7 +178,7 @@ fn infer_binary(
         lens,
         right,
         nest,
-        MaybeType::some(ty),
+        under,
         BINARY_EXPRESSION,
     );
     if b.number != 0 {
