@@ -1,0 +1,3 @@
+pub mod Infers
+pub mod Arms
+pub mod Operations

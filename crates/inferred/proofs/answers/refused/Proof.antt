@@ -1,0 +1,13 @@
+-- `inferred::answers::refused` meets its contract. Assumes nothing.
+use borrow.Author.Needs.{needs}
+use Rattle.inferred.specs.Steps.{says-name}
+use Rattle.inferred.proofs.answers.refused.Statement.{statement}
+use Rattle.inferred.proofs.answers.refused.Tie as tie
+
+pub refused-spec : {M : Type 1} → statement M
+refused-spec =
+    tie.close
+    (tie.spec
+    (λ c κs. search needs)
+    (λ c κs. search needs)
+    (λ c. λ l h names f. says-name names f _ l h))

@@ -1,0 +1,65 @@
+// The locals in view: a lent table of 64 rows. A local's type has 64 words; its name and the count of its words stand beside.
+use held::types::HeldType;
+use held::types::MaybeType;
+use rules::ids::NameId;
+ghost use Prim.Native.Nat.{ℕ};
+ghost use mathlib.Core.List.{List};
+ghost use Rattle.rules.specs.Syntax.{ResolvedType, Param};
+ghost use Rattle.rules.specs.Infer.{find-last};
+ghost use Rattle.held.specs.Holds.{Holds, MaybeHolds};
+ghost use Rattle.locals.specs.Rows.{Row, Rows, Last};
+
+// The row of the last local of this name, or the count where there is none.
+pub fn find_local(names: &[u32], count: usize, x: NameId) -> usize
+    ensures { λ r. ⌜ ((rows : ℕ) (words lens : List ℕ) (ps : List (Param ResolvedType)) → Rows rows (now (names .entry)) words lens count 0 ps → Last rows (now (names .entry)) words lens count (x .0) ps r) ⌝ }
+{
+    if names.len() < count {
+        return count;
+    }
+    let mut i = count;
+    while 0 < i {
+        let j = i - 1;
+        if names[j] == x.0 {
+            return j;
+        }
+        i = j;
+    }
+    count
+}
+
+// The type that a row holds.
+pub fn local_type(words: &[u32], lens: &[u32], i: usize) -> HeldType
+    ensures { λ r. ⌜ ((rows : ℕ) (names : List ℕ) (p : Param ResolvedType) → Row rows names (now (words .entry)) (now (lens .entry)) i p → Holds rows r (p .ty)) ⌝ }
+{
+    if 64 <= i {
+        return HeldType::empty();
+    }
+    if lens.len() <= i {
+        return HeldType::empty();
+    }
+    let n = lens[i] as usize;
+    if 64 < n {
+        return HeldType::empty();
+    }
+    if words.len() < 64 * i + 64 {
+        return HeldType::empty();
+    }
+    let mut run = [0u32; 64];
+    let mut k = 0;
+    while k < n {
+        run[k] = words[64 * i + k];
+        k += 1;
+    }
+    HeldType { words: run, len: n }
+}
+
+// The type of the last local of this name.
+pub fn find_last(names: &[u32], words: &[u32], lens: &[u32], count: usize, x: NameId) -> MaybeType
+    ensures { λ r. ⌜ ((rows : ℕ) (ps : List (Param ResolvedType)) → Rows rows (now (names .entry)) (now (words .entry)) (now (lens .entry)) count 0 ps → MaybeHolds rows r (find-last (x .0) ps)) ⌝ }
+{
+    let i = find_local(names, count, x);
+    if i < count {
+        return MaybeType::some(local_type(words, lens, i));
+    }
+    MaybeType::none()
+}
