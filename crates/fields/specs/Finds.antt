@@ -72,8 +72,8 @@ module _ (rows : ℕ) (ws : List ℕ) (x : ℕ) where
       go [] m r q = absurd (omega arith)
       go (p ∷ rest) m r q =
           let k : place ≡ next + 1 = a (r .1 .name-at .inside) in
-          let s : Stands ws (run (p .ty)) place (r .0) = subst (λ (j : ℕ). Stands ws (run (p .ty)) j (r .0)) (sym k) (r .1 .type-at .run-at) in
-          let g = r .1 .type-at .stored in
+          let s : Stands ws (run (p .ty)) place (r .0) = subst (λ (j : ℕ). Stands ws (run (p .ty)) j (r .0)) (sym k) (r .1 .type-at .words-at) in
+          let g = r .1 .type-at .good in
           let b : c .next ≡ r .0 = behind (type-exact rows) (p .ty) g s h in
           let y : name ≡ p .name = e ∙ r .1 .name-at .is in
           record {

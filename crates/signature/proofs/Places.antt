@@ -14,7 +14,7 @@ use Rattle.layout.specs.Rows.{Inside}
 use Rattle.layout.specs.Open.{pool-words}
 use Rattle.pool_type_exprs.specs.TypeExprAt.{Type-expr-stands}
 use Rattle.held.specs.Holds.{Holds}
-use Rattle.lookups.specs.Aliases.{Expr-stands}
+use Rattle.stored.specs.Held.{Expr-stands}
 use Rattle.subst.specs.declared.whole.Substituted.{Substituted}
 use Rattle.subst.specs.Answers.{Answers}
 
