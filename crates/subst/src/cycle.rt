@@ -1,10 +1,10 @@
 // Nodes with parts: the resolver and the expander of generic aliases, which call each other. The visits left fall with each node read.
 use held::types::HeldType;
 use layout::Layout;
-use subst_leaves::Resolved;
-use subst_leaves::failed;
 use rules::ids::NameId;
 use rules::kinds::TypeKind;
+use subst_leaves::Resolved;
+use subst_leaves::failed;
 ghost use Prim.Native.Nat.{_<_};
 ghost use Rattle.layout.specs.Rows.{Cut};
 ghost use Rattle.subst_leaves.specs.Says.{Keeps};
