@@ -105,7 +105,7 @@ module _ {image : List ℕ} {l : Layout} {params types count : ℕ} (g : Given i
           let p : Param ResolvedType = record { name = x; ty = t } in
           let e : x ≡ y = named ∙ xr .1 .0 .is in
           let kept : Rows (l .names .rows) new 0 (v .made) = rows-kept (l .names .rows) table new 0 (v .made) (omega (arith, written .size, v .counted, g .few, size))
-              (λ j m. written .kept j (omega (arith, v .counted))) (v .rows) in
+          (λ j m. written .kept j (omega (arith, v .counted))) (v .rows) in
           record {
             made = v .made ++ (p ∷ []);
             xs = xs;
