@@ -8,11 +8,10 @@ use native.Mathlib.Nat.{le-refl}
 use lib.ListN.{length}
 use lib.Dec.{leb}
 use borrow.Author.Tests.{le-leb, lt-leb}
-use Rattle.rules.specs.Words.{bytes-of, over-start}
 use Rattle.rules.specs.Refusal as rules
 use Rattle.rules.specs.Refusal.{Result, ok, err}
 use Rattle.rules.specs.Answer as rules-answer
-use Rattle.rules.specs.Answer.{refused, accepted, too-short, finished}
+use Rattle.rules.specs.Answer.{accepted, too-short, finished}
 use Rattle.words.specs.Puts.{puts-start}
 use Rattle.answers.specs.declared.answer.Answer.{Answer}
 use Rattle.answers.specs.declared.answer.Outcome.{Outcome}

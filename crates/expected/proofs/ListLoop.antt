@@ -1,12 +1,12 @@
 -- A trait's functions, one by one. Assumes nothing.
-use Prim.Native.Nat.{ℕ, suc, _+_, _*_, _<_, _≤_}
-use mathlib.Core.Path.{_≡_, refl, sym, ap, ap₂, subst, _∙_}
-use mathlib.Core.Bool.{Bool, true, false}
+use Prim.Native.Nat.{ℕ, _+_, _*_, _<_, _≤_}
+use mathlib.Core.Path.{_≡_, refl, sym, ap, subst, _∙_}
+use mathlib.Core.Bool.{true, false}
 use mathlib.Core.List.{List, [], _∷_, _++_}
 use native.Mathlib.Omega.{arith}
 use lib.ListN.{length, getD, length-append}
 use Rattle.rules.specs.Syntax.{TraitFnDef}
-use Rattle.rules.specs.Refusal.{Result, ok, err, _>>=_, in-function}
+use Rattle.rules.specs.Refusal.{Result, err, _>>=_, in-function}
 use Rattle.rules.specs.Signatures.{PortableSignature, resolve-signature, expected-list}
 use Rattle.rules.specs.Output.{each, listed, signatures-words}
 use Rattle.reading.specs.Gives.{Row}

@@ -1,14 +1,13 @@
 -- A trait's type parameters with an implementation's type arguments, and 6 where they are not as many. Assumes nothing.
-use Prim.Native.Nat.{ℕ, _+_, _*_, _≤_}
-use mathlib.Core.Path.{_≡_, refl, sym, ap, ap₂, subst, _∙_}
+use Prim.Native.Nat.{ℕ, _+_, _≤_}
+use mathlib.Core.Path.{_≡_, sym, ap, ap₂, subst, _∙_}
 use mathlib.Core.Bool.{Bool, true, false}
 use mathlib.Core.List.{List, [], _∷_}
 use native.Mathlib.Omega.{arith}
 use lib.ListN.{length, getD}
 use lib.Dec.{eqb}
 use borrow.Author.Tests.{eq-eqb, ne-eqb}
-use Rattle.rules.specs.Syntax.{TraitDef, ImplDef, CompiledSchema}
-use Rattle.rules.specs.Refusal.{Result, ok, err, _>>=_, ensure, with-detail}
+use Rattle.rules.specs.Refusal.{Result, err, _>>=_, ensure, with-detail}
 use Rattle.rules.specs.Substitute.{view}
 use Rattle.rules.specs.Signatures.{PortableSignature, expected-list, expected-functions}
 use Rattle.reading.specs.Gives.{Below-at, Row, Counted}

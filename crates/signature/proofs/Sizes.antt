@@ -1,15 +1,14 @@
 -- Parts of a signature are small: visits and words. Assumes nothing.
-use Prim.Native.Nat.{ℕ, suc, _+_, _*_, _≤_}
-use mathlib.Core.Path.{_≡_, refl, sym, ap, _∙_}
+use Prim.Native.Nat.{ℕ, suc, _*_, _≤_}
+use mathlib.Core.Path.{_≡_, refl, ap}
 use mathlib.Core.Bool.{Bool, true, false}
-use mathlib.Core.List.{List, [], _∷_, _++_}
+use mathlib.Core.List.{List, [], _∷_}
 use mathlib.Core.Option.{Option, none, some}
 use native.Mathlib.Omega.{arith}
 use lib.ListN.{length, length-append}
 use Rattle.rules.specs.Syntax.{ResolvedType, TypeExpr, TraitReturn, TraitFnDef, CompiledSchema, Param, run}
 use Rattle.rules.specs.Types.{normalize-return, return-words, same-type, VOID}
-use Rattle.rules.specs.Substitute.{Counted, too-large, done, after, substitute-type}
-use Rattle.rules.specs.Signatures.{PortableSignature, resolve-params, resolve-return, resolve-signature}
+use Rattle.rules.specs.Signatures.{resolve-params, resolve-return, resolve-signature}
 use Rattle.rules.specs.Output.{each, listed, param-words, signature-words}
 use Rattle.laws.specs.Counts.{Counts, done-counts, after-counts}
 use Rattle.laws.specs.Substitution.{substitute-accepted}

@@ -2,15 +2,13 @@
 use Prim.Native.Nat.{ℕ, _+_}
 use mathlib.Core.Path.{_≡_, refl, sym, ap, ap₂, _∙_}
 use mathlib.Core.Bool.{Bool, true, false}
-use mathlib.Core.List.{List, [], _∷_, _++_}
+use mathlib.Core.List.{List, [], _∷_}
 use mathlib.Core.Option.{Option, none, some}
-use Rattle.rules.specs.Syntax.{ResolvedType, TypeExpr, TraitFnDef, CompiledSchema, Param, run}
+use Rattle.rules.specs.Syntax.{ResolvedType, TypeExpr, TraitFnDef, CompiledSchema, Param}
 use Rattle.rules.specs.Types.{contains-poison, return-words, normalize-return}
 use Rattle.rules.specs.Substitute.{Counted, too-large, done, after, substitute-type}
-use Rattle.rules.specs.Signatures.{PortableSignature, poisoned-return, resolve-params, resolve-return, resolve-signature}
-use Rattle.rules.specs.Output.{param-words}
+use Rattle.rules.specs.Signatures.{poisoned-return, resolve-params, resolve-return, resolve-signature}
 use Rattle.reading.specs.Steps.{true-false}
-use Rattle.held.specs.declared.types.HeldType.{HeldType}
 use Rattle.held.specs.declared.types.MaybeType.{MaybeType}
 use Rattle.held.specs.Runs.{held-run}
 use Rattle.held.specs.Holds.{MaybeHolds, Each}

@@ -1,7 +1,7 @@
 -- What stands at a place of the pool, with its schema and the type parameters in view.
 use Prim.Native.Nat.{ℕ}
 use mathlib.Core.List.{List}
-use Rattle.rules.specs.Syntax.{ResolvedType, TypeExpr, TraitReturn, TraitFnDef, CompiledSchema, Param}
+use Rattle.rules.specs.Syntax.{ResolvedType, TypeExpr, CompiledSchema, Param}
 use Rattle.reading.specs.Gives.{Counted}
 use Rattle.layout.specs.declared.Layout.{Layout}
 use Rattle.layout.specs.Open.{Open, pool-words}

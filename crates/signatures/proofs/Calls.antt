@@ -1,17 +1,15 @@
 -- The call by the rows that it finds. Assumes nothing.
-use Prim.Native.Nat.{ℕ, _+_, _*_, _<_, _≤_}
+use Prim.Native.Nat.{ℕ, _+_}
 use mathlib.Core.Path.{_≡_, refl, sym, ap, subst, _∙_}
 use mathlib.Core.Bool.{true, false}
 use mathlib.Core.List.{List}
 use mathlib.Core.Option.{Option, none, some}
-use native.Mathlib.Omega.{arith}
-use lib.ListN.{length, getD}
 use Rattle.rules.specs.Words.{NONE}
 use Rattle.rules.specs.Syntax.{TraitDef, ImplDef, CompiledSchema}
 use Rattle.rules.specs.Options.{then}
 use Rattle.rules.specs.Substitute.{get}
 use Rattle.rules.specs.Refusal.{Result, ok, err, _>>=_, or-refuse, refusal, with-name}
-use Rattle.rules.specs.Signatures.{PortableSignature, is-trait, find-trait, expected-functions}
+use Rattle.rules.specs.Signatures.{is-trait, find-trait, expected-functions}
 use Rattle.rules.specs.Project.{is-implementation, find-implementation, expected-signatures}
 use Rattle.rules.specs.Output.{signatures-words}
 use Rattle.rules.specs.Answer.{signatures-call}

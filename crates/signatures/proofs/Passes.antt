@@ -1,5 +1,5 @@
 -- Two passes over one output: the first lends none of it. Assumes nothing.
-use Prim.Native.Nat.{ℕ, _+_, _*_, _<_, _≤_, _^_}
+use Prim.Native.Nat.{ℕ, _+_, _<_, _^_}
 use mathlib.Core.Path.{_≡_, refl, sym, ap, subst, _∙_}
 use mathlib.Core.List.{List, [], _∷_, _++_}
 use native.Mathlib.Omega.{arith}
@@ -8,7 +8,6 @@ use Rattle.rules.specs.Refusal.{Result, ok}
 use Rattle.rules.specs.Answer as rules
 use Rattle.rules.specs.Answer.{signatures-call}
 use Rattle.layout.specs.declared.Layout.{Layout}
-use Rattle.layout.specs.Open.{Open}
 use Rattle.laws_answers.specs.Answers.{signatures-bound}
 use Rattle.answers.specs.declared.answer.Answer.{Answer}
 use Rattle.answers.specs.declared.answer.Outcome.{Outcome}

@@ -1,12 +1,11 @@
 -- A definition's row by its kind. Assumes nothing.
 use Prim.Native.Nat.{ℕ, _<_, _≤_}
 use mathlib.Core.Path.{_≡_, sym, ap, subst, _∙_}
-use mathlib.Core.Bool.{Bool, true, false}
+use mathlib.Core.Bool.{Bool, false}
 use mathlib.Core.List.{List}
-use mathlib.Core.Option.{Option, none, some}
+use mathlib.Core.Option.{Option}
 use native.Mathlib.Omega.{arith}
 use native.Mathlib.Decide.{decLe}
-use lib.ListN.{getElem?}
 use Rattle.rules.specs.Syntax.{TypeDef, CompiledSchema}
 use Rattle.rules.specs.Options.{then}
 use Rattle.rules.specs.Substitute.{get}

@@ -1,19 +1,17 @@
 -- Type parameters with their arguments, row by row. Assumes nothing.
-use Prim.Native.Nat.{ℕ, suc, _+_, _*_, _<_, _≤_}
+use Prim.Native.Nat.{ℕ, _+_, _*_, _<_, _≤_}
 use mathlib.Core.Path.{_≡_, refl, sym, ap, subst, _∙_}
 use mathlib.Core.List.{List, [], _∷_, _++_, append-nil, append-assoc}
 use native.Mathlib.Omega.{arith}
-use lib.ListN.{length, getD, take, length-append, length-take}
+use lib.ListN.{length, getD, take, length-append}
 use lib.Seq.{getD-take, length-take-le}
-use Rattle.rules.specs.Syntax.{ResolvedType, run, Param}
+use Rattle.rules.specs.Syntax.{ResolvedType, Param}
 use Rattle.rules.specs.Substitute.{view}
 use Rattle.reading.specs.Gives as gives
 use Rattle.reading.specs.Gives.{Below-at}
 use Rattle.layout.specs.declared.Layout.{Layout}
 use Rattle.layout.specs.Open.{pool-words}
 use Rattle.pool_types.specs.TypeAt.{Type-stands}
-use Rattle.held.specs.declared.types.HeldType.{HeldType}
-use Rattle.held.specs.Holds.{Holds}
 use Rattle.stored.specs.declared.Held.{Held}
 use Rattle.stored.specs.Held.{Types}
 use Rattle.scope.specs.Views.{Row, Views, Written}

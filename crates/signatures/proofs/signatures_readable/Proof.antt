@@ -1,8 +1,6 @@
-use Prim.Native.Nat.{ℕ, _*_, _≤_}
 use native.Mathlib.Omega.{arith}
 use borrow.Author.Tests.{not-true, not-false}
 use denote.Ref.{now}
-use lib.ListN.{length}
 use Rattle.rules.specs.Answer.{signatures-call}
 use Rattle.answers.proofs.Calls.{is-accepted, is-refused, ends-refused, ends-short, ends-accepted}
 use Rattle.signatures.proofs.Passes.{untouched, untouched-comes, untouched-length, again, one-length, length-fits, visits-same}

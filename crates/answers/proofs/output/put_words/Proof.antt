@@ -1,12 +1,12 @@
 use borrow.Author.Needs.{needs}
-use mathlib.Core.Path.{_≡_, refl, sym, ap, ap₂, _∙_}
+use mathlib.Core.Path.{_≡_, refl, ap, ap₂, _∙_}
 use Prim.Native.Nat.{ℕ, _+_, _*_, _-_, _≤_}
 use native.Mathlib.Omega.{arith}
 use lib.ListN.{length, take, getD}
 use lib.Seq.{take-all}
 use mathlib.Core.List.{List}
 use denote.Ref.{now}
-use Rattle.words.specs.Puts.{put, puts, puts-step, length-puts}
+use Rattle.words.specs.Puts.{put, puts, puts-step}
 use Rattle.answers.proofs.output.put_words.Statement.{statement}
 use Rattle.answers.proofs.output.put_words.Tie as tie
 

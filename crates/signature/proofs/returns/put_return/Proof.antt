@@ -1,4 +1,4 @@
-use mathlib.Core.Path.{_≡_, refl}
+use mathlib.Core.Path.{refl}
 use borrow.Author.Tests.{not-true, not-false}
 use Rattle.rules.specs.Types.{normalize-return}
 use Rattle.answers.specs.Writes.{writes-then, writes-same}
