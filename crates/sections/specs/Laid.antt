@@ -6,6 +6,8 @@ use mathlib.Core.List.{List, []}
 use mathlib.Core.Option.{Option, none, some}
 use Rattle.rules.specs.Reader.{Rest, rest-at}
 use Rattle.rules.specs.Image.{rows, readable}
+use Rattle.reading.specs.declared.Section.{Section}
+use Rattle.layout.specs.declared.Table.{Table}
 use Rattle.layout.specs.declared.Layout.{Layout}
 use Rattle.layout.specs.declared.Opened.{Opened}
 use Rattle.layout.specs.Rows.{Cut}
@@ -15,6 +17,16 @@ use Rattle.layout.specs.Readers.{rows-of}
 abbrev pub value : {A : Type 0} → Option (A × Rest) → Option A
 value none = none
 value (some p) = some (p .0)
+
+-- no layout: nothing stands anywhere
+abbrev pub no-section : Section
+no-section = record { start = 0; len = 0 }
+
+abbrev pub no-table : Table
+no-table = record { words = no-section; rows = 0; width = 0 }
+
+abbrev pub no-layout : Opened
+no-layout = record { ok = false; layout = record { texts = 0; names = no-table; strings = no-table; pool = no-section; definitions = no-table } }
 
 -- the image is readable where its rows are
 pub record Laid (image : List ℕ) (l : Layout) : Type 0 where

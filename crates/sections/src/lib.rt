@@ -9,7 +9,7 @@ ghost use Prim.Native.Nat.{_*_, _≤_};
 ghost use lib.ListN.{length};
 ghost use Rattle.rules.specs.Image.{whole-rows, good-trailer};
 ghost use Rattle.sections.specs.Trailers.{meant, IsTrailer, Whole, Tabled, Tells};
-ghost use Rattle.sections.specs.Laid.{Read};
+ghost use Rattle.sections.specs.Laid.{no-layout, Read};
 
 // Words of a row. What a definition row of format 1 has stands here; the layout hands it on.
 const NAME_WORDS: usize = 4;
@@ -105,7 +105,7 @@ fn layout_of(t: Trailer, size: usize) -> Layout
 
 // No layout.
 fn refused() -> Opened
-    ensures { λ r. ⌜ r .ok ≡ false ⌝ }
+    ensures { λ r. ⌜ r ≡ no-layout ⌝ }
 {
     let none = Section { start: 0, len: 0 };
     let rows = Table {
