@@ -23,10 +23,10 @@ pub fn after(s: Section, at: usize) -> usize
 }
 
 // The place of a field's type, if the field has the name.
-fn pick(best: usize, place: usize, name: u32, x: NameId) -> usize
-    ensures { λ r. ⌜ r ≡ cond (eqb (x .0) name) place best ⌝ }
+fn pick(best: usize, place: usize, name: NameId, x: NameId) -> usize
+    ensures { λ r. ⌜ r ≡ cond (eqb (x .0) (name .0)) place best ⌝ }
 {
-    if x.0 == name { place } else { best }
+    if x.0 == name.0 { place } else { best }
 }
 
 // Where the type of the last field of this name stands, or 0.
@@ -42,7 +42,12 @@ pub fn find_field(image: &[u8], l: Layout, at: usize, x: NameId) -> usize
     let mut best = 0;
     while i < count {
         let place = after(pool, next);
-        best = pick(best, place, reading::section_word(image, pool, next), x);
+        best = pick(
+            best,
+            place,
+            NameId(reading::section_word(image, pool, next)),
+            x,
+        );
         let c = pool_types::resolved::check_type(image, pool, place, names.rows);
         next = c.next;
         i += 1;

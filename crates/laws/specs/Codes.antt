@@ -75,7 +75,7 @@ expr-code c =
     P k = ExprCode k c
 
 abbrev pub StatementCode : StatementKind → ℕ → Type 0
-StatementCode StatementKind.Plain c = c ≡ 0
+StatementCode StatementKind.Expr c = c ≡ 0
 StatementCode StatementKind.Let c = c ≡ 1
 StatementCode StatementKind.Return c = c ≡ 2
 StatementCode StatementKind.Assign c = c ≡ 3
@@ -84,7 +84,7 @@ StatementCode StatementKind.Unknown c = Unit {0}
 pub statement-code : (c : ℕ) → StatementCode (statement-kind c) c
 unfolding statement-kind
 statement-code c =
-    step P (eqb c 0) StatementKind.Plain _ (λ e. eqb-true c 0 e)
+    step P (eqb c 0) StatementKind.Expr _ (λ e. eqb-true c 0 e)
     (step P (eqb c 1) StatementKind.Let _ (λ e. eqb-true c 1 e)
     (step P (eqb c 2) StatementKind.Return _ (λ e. eqb-true c 2 e)
     (step P (eqb c 3) StatementKind.Assign StatementKind.Unknown (λ e. eqb-true c 3 e) tt)))

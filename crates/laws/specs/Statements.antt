@@ -26,7 +26,7 @@ module _ (names strings : ℕ) where
 
   statement-reads : (s : Statement) → GoodStatement names strings s → Reads (statement names strings) (stored-statement-words s) s
   unfolding stored-statement-words statement-node statement-kind
-  statement-reads (Statement.expr e) g = at-kind StatementKind.Plain refl (last-reads _ (expression-exact names strings .reads e g))
+  statement-reads (Statement.expr e) g = at-kind StatementKind.Expr refl (last-reads _ (expression-exact names strings .reads e g))
   statement-reads (Statement.let-local x t e) g =
       at-kind StatementKind.Let refl (below-then _ (g .0) (then-reads _ (maybe-exact (type-exact names) .reads t (g .1)) (last-reads _ (expression-exact names strings .reads e (g .2)))))
   statement-reads (Statement.return v) g = at-kind StatementKind.Return refl (last-reads _ (maybe-exact (expression-exact names strings) .reads v g))
@@ -35,7 +35,7 @@ module _ (names strings : ℕ) where
 
   node-gives : (c : ℕ) (k : StatementKind) → StatementCode k c → Gives (statement-node names strings k) (λ s ws. Run stored-statement-words (GoodStatement names strings) s (c ∷ ws))
   unfolding stored-statement-words statement-node
-  node-gives c StatementKind.Plain q = gives.last-gives _ (expression-exact names strings .gives) (λ e ws h. record { is = ap₂ _∷_ q (h .is); good = h .good })
+  node-gives c StatementKind.Expr q = gives.last-gives _ (expression-exact names strings .gives) (λ e ws h. record { is = ap₂ _∷_ q (h .is); good = h .good })
   node-gives c StatementKind.Let q = gives.below-then (λ x l. gives.then-gives (maybe-exact (type-exact names) .gives) (λ t vs h.
       gives.last-gives _ (expression-exact names strings .gives) (λ e ws i.
       record { is = ap₂ (λ (w : ℕ) (l : List ℕ). w ∷ x ∷ l) q (ap₂ _++_ (h .is) (i .is)); good = (l, h .good, i .good) })))

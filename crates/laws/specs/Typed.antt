@@ -108,7 +108,7 @@ module _ (names : ℕ) where
     give (typed t k)
 
   unfoldable pub typed-statement-node : StatementKind → Reader PortableStatement
-  typed-statement-node StatementKind.Plain = fail
+  typed-statement-node StatementKind.Expr = fail
   typed-statement-node StatementKind.Let = do
     x ← word
     t ← resolved-type names

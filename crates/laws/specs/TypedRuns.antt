@@ -102,7 +102,7 @@ module _ (names : ℕ) where
 
   statement-node-gives : (c : ℕ) (k : StatementKind) → StatementCode k c → Gives (typed-statement-node names k) (λ s ws. Run statement-words (TypedStatement names) s (c ∷ ws))
   unfolding statement-words typed-statement-node
-  statement-node-gives c StatementKind.Plain q = gives.fail-gives
+  statement-node-gives c StatementKind.Expr q = gives.fail-gives
   statement-node-gives c StatementKind.Let q = gives.word-then (λ x. gives.then-gives (type-exact names .gives) (λ t vs h. gives.last-gives _ (value-gives 32) (λ e ws i.
       record { is = ap₂ (λ (w : ℕ) (l : List ℕ). w ∷ x ∷ l) q (ap₂ _++_ (h .is) (i .is)); good = (h .good, i .good) })))
   statement-node-gives c StatementKind.Return q = gives.last-gives _ (maybe-exact (value-exact 32) .gives) (λ v ws h. record { is = ap₂ _∷_ q (h .is) ∙ sym (return-statement v); good = h .good })

@@ -10,9 +10,9 @@ use Rattle.rules.specs.Words.{member, all-different}
 use Rattle.rules.specs.Syntax.{run, ImplFnDef, ImplDef, TypeDef, CompiledSchema}
 use Rattle.rules.specs.Options.{then}
 use Rattle.rules.specs.Substitute.{get, number}
-use Rattle.rules.specs.Signatures.{is-trait, find-trait, PortableSignature}
+use Rattle.rules.specs.Signatures.{as-trait, find-trait, PortableSignature}
 use Rattle.rules.specs.Bodies.{PortableFunction}
-use Rattle.rules.specs.Project.{is-message, is-implementation, no-repeat, no-stranger, find-implementation, target-message, project-impl, expected-signatures}
+use Rattle.rules.specs.Project.{as-message, as-implementation, no-repeat, no-stranger, find-implementation, target-message, project-impl, expected-signatures}
 use Rattle.rules.specs.Output.{each, listed, functions-words, signature-words, signatures-words}
 use Rattle.rules.specs.Answer.{project-call, signatures-call}
 use Rattle.laws.specs.Good.{All, AllOption}
@@ -91,24 +91,24 @@ module _ (names strings : ℕ) where
   abbrev pub Impl : ImplDef → Type 0
   Impl i = GoodImpl names strings i × (length (implementation-words i) ≤ most-words)
 
-  implementation-good : (d : TypeDef) → GoodDefinition names strings d → AllOption Impl (is-implementation d)
-  unfolding is-implementation
+  implementation-good : (d : TypeDef) → GoodDefinition names strings d → AllOption Impl (as-implementation d)
+  unfolding as-implementation
   implementation-good TypeDef.other g = tt
   implementation-good (TypeDef.message m) g = tt
   implementation-good (TypeDef.generic-alias a) g = tt
   implementation-good (TypeDef.trait t) g = tt
   implementation-good (TypeDef.implementation i) g = g
 
-  trait-good : (d : TypeDef) → GoodDefinition names strings d → AllOption (GoodTrait names) (is-trait d)
-  unfolding is-trait
+  trait-good : (d : TypeDef) → GoodDefinition names strings d → AllOption (GoodTrait names) (as-trait d)
+  unfolding as-trait
   trait-good TypeDef.other g = tt
   trait-good (TypeDef.message m) g = tt
   trait-good (TypeDef.generic-alias a) g = tt
   trait-good (TypeDef.trait t) g = g
   trait-good (TypeDef.implementation i) g = tt
 
-  message-good : (d : TypeDef) → GoodDefinition names strings d → AllOption (GoodMessage names) (is-message d)
-  unfolding is-message
+  message-good : (d : TypeDef) → GoodDefinition names strings d → AllOption (GoodMessage names) (as-message d)
+  unfolding as-message
   message-good TypeDef.other g = tt
   message-good (TypeDef.message m) g = g
   message-good (TypeDef.generic-alias a) g = tt
@@ -123,16 +123,16 @@ module _ (names strings : ℕ) where
 
     implementation-ends : (row : ℕ) → Ends Short (find-implementation schema row) Impl
     unfolding find-implementation
-    implementation-ends row = ends.refuse-ends Impl _ _ (omega arith) (row-good Impl is-implementation implementation-good row)
+    implementation-ends row = ends.refuse-ends Impl _ _ (omega arith) (row-good Impl as-implementation implementation-good row)
 
     trait-ends : (impl : ImplDef) → Ends Short (find-trait schema impl) (GoodTrait names)
     unfolding find-trait
-    trait-ends impl = ends.refuse-ends (GoodTrait names) _ _ (omega arith) (row-good (GoodTrait names) is-trait trait-good (impl .trait-id))
+    trait-ends impl = ends.refuse-ends (GoodTrait names) _ _ (omega arith) (row-good (GoodTrait names) as-trait trait-good (impl .trait-id))
 
     message-ends : (impl : ImplDef) → Ends Short (target-message schema impl) (GoodMessage names)
     unfolding target-message
     message-ends impl = ends.refuse-ends (GoodMessage names) _ _ (omega arith)
-        (then-any (GoodMessage names) (number (impl .target-type)) _ (λ n. row-good (GoodMessage names) is-message message-good n))
+        (then-any (GoodMessage names) (number (impl .target-type)) _ (λ n. row-good (GoodMessage names) as-message message-good n))
 
     pub project-ends : (impl : ImplDef) → Impl impl → Ends Short (project-impl schema impl) (Projection names)
     unfolding project-impl functions-words listed

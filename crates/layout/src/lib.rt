@@ -101,7 +101,7 @@ pub fn definition_row(image: &[u8], l: Layout, d: TypeId) -> DefinitionRow
         };
     }
     DefinitionRow {
-        kind: kinds::definition_kind(word_of_row(image, t, i, 0)),
+        kind: codes::definition_kind(word_of_row(image, t, i, 0)),
         start: word_of_row(image, t, i, 1),
     }
 }

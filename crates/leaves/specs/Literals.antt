@@ -18,7 +18,7 @@ use Rattle.held.specs.Runs.{Runs}
 use Rattle.held.specs.Holds.{Holds, MaybeHolds}
 use Rattle.held.proofs.Maybe.{some-of, none-of}
 use Rattle.held.proofs.Trees.{plain-holds}
-use Rattle.kinds.proofs.Codes.{primitive-in}
+use Rattle.codes.proofs.Codes.{primitive-in}
 use Rattle.types.specs.Literals.{literal-type}
 use Rattle.types.proofs.Inferred.{literal-typed, literal-refused}
 use Rattle.stored.specs.Heads.{head, tail, inside}

@@ -7,7 +7,7 @@ use Rattle.held.specs.declared.types.HeldType.{HeldType}
 use Rattle.held.specs.Runs.{Runs}
 use Rattle.held.specs.Holds.{Holds}
 use Rattle.held.proofs.Trees.{plain-holds}
-use Rattle.kinds.proofs.Codes.{primitive-in, semantic-in}
+use Rattle.codes.proofs.Codes.{primitive-in, semantic-in}
 
 module _ (names : ℕ) {h : HeldType} where
   pub bool-held : Runs h (0 ∷ []) → Holds names h BOOL

@@ -58,7 +58,7 @@ pub fn kind_at(image: &[u8], l: Layout, at: usize) -> ExprKind
     ensures { λ r. ⌜ r ≡ expr-kind (getD (pool-words (now (image .entry)) l) at 0) ⌝ }
 {
     let pool = l.pool;
-    kinds::expr_kind(reading::section_word(image, pool, at))
+    codes::expr_kind(reading::section_word(image, pool, at))
 }
 
 // The word behind a code.

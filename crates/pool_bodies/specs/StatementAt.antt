@@ -24,7 +24,7 @@ pub record Statement-node (ws : List ℕ) (at : ℕ) (k : StatementKind) : Type 
 
 -- 1 for a Let's code
 abbrev pub let-of : StatementKind → ℕ
-let-of StatementKind.Plain = 0
+let-of StatementKind.Expr = 0
 let-of StatementKind.Let = 1
 let-of StatementKind.Return = 0
 let-of StatementKind.Assign = 0
@@ -33,7 +33,7 @@ let-of StatementKind.Unknown = 0
 -- over the numbers of name rows and string rows and the words
 module _ (names strings : ℕ) (ws : List ℕ) where
   abbrev pub Statement-at : Statement → ℕ → ℕ → Type 0
-  Statement-at (Statement.expr e) at n = Statement-node ws at StatementKind.Plain × Expr-stands names strings ws e (at + 1) n
+  Statement-at (Statement.expr e) at n = Statement-node ws at StatementKind.Expr × Expr-stands names strings ws e (at + 1) n
   Statement-at (Statement.let-local x t e) at n =
       Statement-node ws at StatementKind.Let × Name-at names strings ws x (at + 1) × (m : ℕ) × Maybe-at ws (Type-stands names ws) t (at + 1 + 1) m × Expr-stands names strings ws e m n
   Statement-at (Statement.return v) at n = Statement-node ws at StatementKind.Return × Maybe-at ws (Expr-stands names strings ws) v (at + 1) n
@@ -52,7 +52,7 @@ module _ (names strings : ℕ) (ws : List ℕ) where
 
   node-gives : (at : ℕ) (k : StatementKind) → Statement-node ws at k → Gives (statement-node names strings k) ws (at + 1) (λ s n. Statement-at s at n)
   unfolding statement-node
-  node-gives at StatementKind.Plain i = then (expression-gives names strings ws (at + 1)) (λ e n a. given _ (i, a))
+  node-gives at StatementKind.Expr i = then (expression-gives names strings ws (at + 1)) (λ e n a. given _ (i, a))
   node-gives at StatementKind.Let i =
       below-then (λ x j l. then (maybe-gives (Type-stands names ws) (type-gives names ws) (at + 1 + 1)) (λ t m a. then (expression-gives names strings ws m) (λ e n b. given _ (i, (j, l), m, a, b))))
   node-gives at StatementKind.Return i = then (maybe-gives (Expr-stands names strings ws) (expression-gives names strings ws) (at + 1)) (λ v n a. given _ (i, a))

@@ -149,7 +149,7 @@ pub fn check_expr(
     }
     let n = a.next;
     let d = nesting - 1;
-    let k = kinds::expr_kind(reading::section_word(image, pool, at));
+    let k = codes::expr_kind(reading::section_word(image, pool, at));
     match k {
         ExprKind::Literal => pool_types::parts::check_wide(pool, n),
         ExprKind::Flag => reading::check_below(image, pool, n, 2),

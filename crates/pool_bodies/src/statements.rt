@@ -38,15 +38,9 @@ pub fn check_statement(image: &[u8], pool: Section, at: usize, names: u32, strin
         return a;
     }
     let n = a.next;
-    let k = kinds::statement_kind(reading::section_word(image, pool, at));
+    let k = codes::statement_kind(reading::section_word(image, pool, at));
     match k {
-        StatementKind::Plain => crate::expressions::check_expression(
-            image,
-            pool,
-            n,
-            names,
-            strings,
-        ),
+        StatementKind::Expr => crate::expressions::check_expression(image, pool, n, names, strings),
         StatementKind::Let => check_let(image, pool, n, names, strings),
         StatementKind::Return => crate::expressions::check_maybe_expression(
             image,
@@ -72,9 +66,9 @@ pub fn let_at(image: &[u8], pool: Section, at: usize) -> u32
     requires { ⌜ Lies (now image) pool ⌝ }
     ensures { λ r. ⌜ (r ≡ let-of (statement-kind (getD (section-words (now (image .entry)) pool) at 0))) × (r < 2) ⌝ }
 {
-    let k = kinds::statement_kind(reading::section_word(image, pool, at));
+    let k = codes::statement_kind(reading::section_word(image, pool, at));
     match k {
-        StatementKind::Plain => 0,
+        StatementKind::Expr => 0,
         StatementKind::Let => 1,
         StatementKind::Return => 0,
         StatementKind::Assign => 0,

@@ -1,6 +1,7 @@
 // Traits in the pool.
 use reading::Checked;
 use reading::Section;
+use rules::ids::NameId;
 ghost use mathlib.Core.Path.{_≡_};
 ghost use Rattle.rules.specs.Words.{member};
 ghost use Rattle.rules.specs.ReadDefinitions.{trait-return, trait-function, trait};
@@ -46,12 +47,12 @@ pub fn check_trait_function(image: &[u8], pool: Section, at: usize, names: u32) 
 }
 
 // Whether a number is in a list.
-pub fn listed(xs: &[u32], x: u32) -> bool
-    ensures { λ r. ⌜ r ≡ member x (now (xs .entry)) ⌝ }
+pub fn listed(xs: &[u32], x: NameId) -> bool
+    ensures { λ r. ⌜ r ≡ member (x .0) (now (xs .entry)) ⌝ }
 {
     let mut i = 0;
     while i < xs.len() {
-        if x == xs[i] {
+        if x.0 == xs[i] {
             return true;
         }
         i += 1;
@@ -78,7 +79,7 @@ pub fn check_trait_functions(image: &[u8], pool: Section, at: usize, names: u32)
             return a;
         }
         let name = reading::section_word(image, pool, next);
-        if listed(&seen[..i], name) {
+        if listed(&seen[..i], NameId(name)) {
             return Checked { ok: false, next: 0 };
         }
         seen[i] = name;

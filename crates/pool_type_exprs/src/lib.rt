@@ -52,7 +52,7 @@ pub fn check_type_expr_tree(
     }
     let n = a.next;
     let d = depth - 1;
-    let k = kinds::type_kind(reading::section_word(image, pool, at));
+    let k = codes::type_kind(reading::section_word(image, pool, at));
     match k {
         TypeKind::Plain => a,
         TypeKind::Sub => pool_types::parts::check_sub(image, pool, n),

@@ -32,7 +32,7 @@ pub fn check_tree(image: &[u8], pool: Section, at: usize, names: u32, depth: u32
     }
     let n = a.next;
     let d = depth - 1;
-    let k = kinds::type_kind(reading::section_word(image, pool, at));
+    let k = codes::type_kind(reading::section_word(image, pool, at));
     match k {
         TypeKind::Plain => a,
         TypeKind::Sub => crate::parts::check_sub(image, pool, n),

@@ -174,8 +174,8 @@ module _ (schema : CompiledSchema) where
         trait = a .trait;
         message = a .message;
         expected = a .expected;
-        is-trait = same-trait i j (a .trait) (r .trait-id) (a .is-trait);
-        is-message = sym (same-message i j (r .target-type)) ∙ a .is-message;
+        as-trait = same-trait i j (a .trait) (r .trait-id) (a .as-trait);
+        as-message = sym (same-message i j (r .target-type)) ∙ a .as-message;
         is-expected = sym (same-expected i j (a .trait) (r .type-args)) ∙ a .is-expected;
         no-repeats = s .repeats [] (a .no-repeats);
         no-strangers = s .strangers _ (a .no-strangers);

@@ -9,7 +9,7 @@ use Rattle.rules.specs.Syntax.{ImplDef, TypeDef, CompiledSchema}
 use Rattle.rules.specs.Refusal.{ok}
 use Rattle.rules.specs.Substitute.{get}
 use Rattle.rules.specs.Bodies.{PortableFunction}
-use Rattle.rules.specs.Project.{is-implementation, find-implementation}
+use Rattle.rules.specs.Project.{as-implementation, find-implementation}
 use Rattle.rules.specs.Output.{functions-words}
 use Rattle.words.specs.Words.{word4-le}
 use Rattle.laws.specs.Good.{AllOption, Below}
@@ -27,8 +27,8 @@ use Rattle.promises.proofs.ReadSmall.{readable-small}
 use Rattle.promises.proofs.SmallFunctions.{small-functions, functions-small}
 
 -- an implementation's row in a good schema
-implementation-good : (names strings : ℕ) (d : TypeDef) → GoodDefinition names strings d → AllOption (Impl names strings) (is-implementation d)
-unfolding is-implementation
+implementation-good : (names strings : ℕ) (d : TypeDef) → GoodDefinition names strings d → AllOption (Impl names strings) (as-implementation d)
+unfolding as-implementation
 implementation-good names strings TypeDef.other g = tt
 implementation-good names strings (TypeDef.message m) g = tt
 implementation-good names strings (TypeDef.generic-alias a) g = tt
@@ -39,7 +39,7 @@ found-good : (names strings : ℕ) (schema : CompiledSchema) → GoodSchema name
 unfolding find-implementation
 found-good names strings schema s row i q =
     subst (AllOption (Impl names strings)) (found _ _ _ q)
-    (then-all (GoodDefinition names strings) (Impl names strings) (get schema row) is-implementation
+    (then-all (GoodDefinition names strings) (Impl names strings) (get schema row) as-implementation
     (at-all (GoodDefinition names strings) (schema .definitions) row (s .definitions-good)) (implementation-good names strings))
 
 module _ {image : List ℕ} {row : ℕ} {impl : ImplDef} {fs : List PortableFunction} (p : Projects image row impl fs) where

@@ -13,8 +13,8 @@ pub record Parts (schema : CompiledSchema) (impl : ImplDef) (p : ℕ × List Por
   pub trait : TraitDef
   pub message : MessageDef
   pub expected : List PortableSignature
-  pub is-trait : find-trait schema impl ≡ ok trait
-  pub is-message : target-message schema impl ≡ ok message
+  pub as-trait : find-trait schema impl ≡ ok trait
+  pub as-message : target-message schema impl ≡ ok message
   pub is-expected : expected-functions schema trait impl ≡ ok (p .0, expected)
   pub no-repeats : no-repeat [] (impl .functions) ≡ ok tt
   pub no-strangers : no-stranger (map (λ s. s .name) expected) (impl .functions) ≡ ok tt
@@ -35,8 +35,8 @@ module _ (schema : CompiledSchema) (impl : ImplDef) (p : ℕ × List PortableFun
         trait = t .value;
         message = m .value;
         expected = e .value .1;
-        is-trait = t .before;
-        is-message = m .before;
+        as-trait = t .before;
+        as-message = m .before;
         is-expected = e .before;
         no-repeats = r .before;
         no-strangers = s .before;
@@ -46,8 +46,8 @@ module _ (schema : CompiledSchema) (impl : ImplDef) (p : ℕ × List PortableFun
   pub whole : Parts schema impl p → project-impl schema impl ≡ ok p
   unfolding project-impl
   whole q =
-      goes-on _ _ _ _ (q .is-trait)
-      (goes-on _ _ _ _ (q .is-message)
+      goes-on _ _ _ _ (q .as-trait)
+      (goes-on _ _ _ _ (q .as-message)
       (goes-on _ _ _ _ (q .is-expected)
       (goes-on _ _ _ _ (q .no-repeats)
       (goes-on _ _ _ _ (q .no-strangers)

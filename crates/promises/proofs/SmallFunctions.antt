@@ -11,10 +11,10 @@ use Rattle.rules.specs.Refusal.{ok}
 use Rattle.rules.specs.Types.{return-words}
 use Rattle.rules.specs.Options.{then}
 use Rattle.rules.specs.Substitute.{get, number}
-use Rattle.rules.specs.Signatures.{PortableSignature, is-trait, find-trait}
+use Rattle.rules.specs.Signatures.{PortableSignature, as-trait, find-trait}
 use Rattle.rules.specs.CheckSignature.{check-signature}
 use Rattle.rules.specs.Bodies.{PortableFunction, block-of, project-function}
-use Rattle.rules.specs.Project.{is-message, is-implementation, no-repeat, no-stranger, find-function, project-list, find-implementation, target-message, project-impl}
+use Rattle.rules.specs.Project.{as-message, as-implementation, no-repeat, no-stranger, find-function, project-list, find-implementation, target-message, project-impl}
 use Rattle.rules.specs.Output.{listed, param-words, signature-words, statement-words, function-words, functions-words}
 use Rattle.laws.specs.Good.{All, AllOption}
 use Rattle.laws.specs.Each.{at-all, then-all, then-any}
@@ -118,16 +118,16 @@ small-list i m l t (s ∷ ss) h =
 
 -- ---- from a schema's rows
 
-message-small : (d : TypeDef) → SmallDefinition d → AllOption SmallMessage (is-message d)
-unfolding is-message message-words
+message-small : (d : TypeDef) → SmallDefinition d → AllOption SmallMessage (as-message d)
+unfolding as-message message-words
 message-small TypeDef.other h = tt
 message-small (TypeDef.message m) h = small-listed (typed-words run) (m .fields) h
 message-small (TypeDef.generic-alias a) h = tt
 message-small (TypeDef.trait t) h = tt
 message-small (TypeDef.implementation i) h = tt
 
-trait-small : (d : TypeDef) → SmallDefinition d → AllOption SmallTrait (is-trait d)
-unfolding is-trait
+trait-small : (d : TypeDef) → SmallDefinition d → AllOption SmallTrait (as-trait d)
+unfolding as-trait
 trait-small TypeDef.other h = tt
 trait-small (TypeDef.message m) h = tt
 trait-small (TypeDef.generic-alias a) h = tt
@@ -146,8 +146,8 @@ impl-small i h =
       functions = small-listed impl-function-words (i .functions) (small-right types functions tail);
     }
 
-implementation-small : (d : TypeDef) → SmallDefinition d → AllOption SmallImpl (is-implementation d)
-unfolding is-implementation
+implementation-small : (d : TypeDef) → SmallDefinition d → AllOption SmallImpl (as-implementation d)
+unfolding as-implementation
 implementation-small TypeDef.other h = tt
 implementation-small (TypeDef.message m) h = tt
 implementation-small (TypeDef.generic-alias a) h = tt
@@ -160,15 +160,15 @@ module _ (schema : CompiledSchema) (small : SmallSchema schema) where
 
   implementation-found : (row : ℕ) → Ends Any (find-implementation schema row) SmallImpl
   unfolding find-implementation
-  implementation-found row = ends.refuse-ends SmallImpl _ _ tt (row-small SmallImpl is-implementation implementation-small row)
+  implementation-found row = ends.refuse-ends SmallImpl _ _ tt (row-small SmallImpl as-implementation implementation-small row)
 
   trait-found : (i : ImplDef) → Ends Any (find-trait schema i) SmallTrait
   unfolding find-trait
-  trait-found i = ends.refuse-ends SmallTrait _ _ tt (row-small SmallTrait is-trait trait-small (i .trait-id))
+  trait-found i = ends.refuse-ends SmallTrait _ _ tt (row-small SmallTrait as-trait trait-small (i .trait-id))
 
   message-found : (i : ImplDef) → Ends Any (target-message schema i) SmallMessage
   unfolding target-message
-  message-found i = ends.refuse-ends SmallMessage _ _ tt (then-any SmallMessage (number (i .target-type)) _ (row-small SmallMessage is-message message-small))
+  message-found i = ends.refuse-ends SmallMessage _ _ tt (then-any SmallMessage (number (i .target-type)) _ (row-small SmallMessage as-message message-small))
 
   impl-projected : (i : ImplDef) → SmallImpl i → Ends Any (project-impl schema i) (λ p. All SmallFunction (p .1))
   unfolding project-impl

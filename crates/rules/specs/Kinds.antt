@@ -39,7 +39,7 @@ expr-kind c =
 -- 0 Expr, 1 Let, 2 Return, 3 Assign
 unfoldable pub statement-kind : ℕ → StatementKind
 statement-kind c =
-    cond (eqb c 0) StatementKind.Plain
+    cond (eqb c 0) StatementKind.Expr
     (cond (eqb c 1) StatementKind.Let
     (cond (eqb c 2) StatementKind.Return
     (cond (eqb c 3) StatementKind.Assign StatementKind.Unknown)))

@@ -80,7 +80,7 @@ module _ (names strings : ℕ) where
   expression = expr-tree 32
 
   unfoldable pub statement-node : StatementKind → Reader Statement
-  statement-node StatementKind.Plain = do
+  statement-node StatementKind.Expr = do
     e ← expression
     give (Statement.expr e)
   statement-node StatementKind.Let = do

@@ -29,7 +29,7 @@ pub enum ExprKind {
 }
 
 pub enum StatementKind {
-    Plain,
+    Expr,
     Let,
     Return,
     Assign,

@@ -9,8 +9,8 @@ use Rattle.rules.specs.Syntax.{TraitDef, ImplDef, CompiledSchema}
 use Rattle.rules.specs.Options.{then}
 use Rattle.rules.specs.Substitute.{get}
 use Rattle.rules.specs.Refusal.{Result, ok, err, _>>=_, or-refuse, refusal, with-name}
-use Rattle.rules.specs.Signatures.{is-trait, find-trait, expected-functions}
-use Rattle.rules.specs.Project.{is-implementation, find-implementation, expected-signatures}
+use Rattle.rules.specs.Signatures.{as-trait, find-trait, expected-functions}
+use Rattle.rules.specs.Project.{as-implementation, find-implementation, expected-signatures}
 use Rattle.rules.specs.Output.{signatures-words}
 use Rattle.rules.specs.Answer.{signatures-call}
 use Rattle.reading.specs.Gives.{Counted}
@@ -47,23 +47,23 @@ module _ {A : Type 0} {Q : A → ℕ → ℕ → Type 0} {o : Option A} {r : Fou
   lacks e = lacks-o Q o r (f .is) e
 
 -- a trait at a number that is the same
-module _ (s : CompiledSchema) {Q : TraitDef → ℕ → ℕ → Type 0} {r : Found} {n m : ℕ} (e : n ≡ m) (f : Finds Q (then (get s n) is-trait) r) where
-  pub trait-at : r .ok ≡ true → Has Q (then (get s m) is-trait) r
-  trait-at y = has (subst (λ (k : ℕ). Finds Q (then (get s k) is-trait) r) e f) y
+module _ (s : CompiledSchema) {Q : TraitDef → ℕ → ℕ → Type 0} {r : Found} {n m : ℕ} (e : n ≡ m) (f : Finds Q (then (get s n) as-trait) r) where
+  pub trait-at : r .ok ≡ true → Has Q (then (get s m) as-trait) r
+  trait-at y = has (subst (λ (k : ℕ). Finds Q (then (get s k) as-trait) r) e f) y
 
-  pub no-trait-at : r .ok ≡ false → then (get s m) is-trait ≡ none
-  no-trait-at y = lacks (subst (λ (k : ℕ). Finds Q (then (get s k) is-trait) r) e f) y
+  pub no-trait-at : r .ok ≡ false → then (get s m) as-trait ≡ none
+  no-trait-at y = lacks (subst (λ (k : ℕ). Finds Q (then (get s k) as-trait) r) e f) y
 
 module _ (s : CompiledSchema) (number : ℕ) where
   abbrev after-impl : Result ImplDef → Result (ℕ × List ℕ)
   after-impl r = r >>= λ i. expected-signatures s i >>= λ p. ok (p .0, signatures-words (p .1))
 
   -- 3
-  pub no-impl : then (get s number) is-implementation ≡ none → signatures-call number s ≡ err (refusal 3)
+  pub no-impl : then (get s number) as-implementation ≡ none → signatures-call number s ≡ err (refusal 3)
   unfolding signatures-call find-implementation or-refuse _>>=_
   no-impl e = ap (λ (o : Option ImplDef). after-impl (or-refuse o (refusal 3))) e
 
-  module _ {i : ImplDef} (e : then (get s number) is-implementation ≡ some i) where
+  module _ {i : ImplDef} (e : then (get s number) as-implementation ≡ some i) where
     with-impl : signatures-call number s ≡ (expected-signatures s i >>= λ p. ok (p .0, signatures-words (p .1)))
     unfolding signatures-call find-implementation or-refuse _>>=_
     with-impl = ap (λ (o : Option ImplDef). after-impl (or-refuse o (refusal 3))) e
@@ -71,16 +71,16 @@ module _ (s : CompiledSchema) (number : ℕ) where
     abbrev after-trait : Result TraitDef → Result (ℕ × List ℕ)
     after-trait r = (r >>= λ t. expected-functions s t i) >>= λ p. ok (p .0, signatures-words (p .1))
 
-    by-trait : {o : Option TraitDef} → then (get s (i .trait-id)) is-trait ≡ o → signatures-call number s ≡ after-trait (or-refuse o (with-name 4 NONE (i .trait-name)))
+    by-trait : {o : Option TraitDef} → then (get s (i .trait-id)) as-trait ≡ o → signatures-call number s ≡ after-trait (or-refuse o (with-name 4 NONE (i .trait-name)))
     unfolding expected-signatures find-trait
     by-trait q = with-impl ∙ ap (λ (o : Option TraitDef). after-trait (or-refuse o (with-name 4 NONE (i .trait-name)))) q
 
     -- 4
-    pub no-trait : then (get s (i .trait-id)) is-trait ≡ none → signatures-call number s ≡ err (with-name 4 NONE (i .trait-name))
+    pub no-trait : then (get s (i .trait-id)) as-trait ≡ none → signatures-call number s ≡ err (with-name 4 NONE (i .trait-name))
     unfolding or-refuse _>>=_
     no-trait q = by-trait q
 
-    pub with-trait : {t : TraitDef} → then (get s (i .trait-id)) is-trait ≡ some t → signatures-call number s ≡ in-words (expected-functions s t i)
+    pub with-trait : {t : TraitDef} → then (get s (i .trait-id)) as-trait ≡ some t → signatures-call number s ≡ in-words (expected-functions s t i)
     unfolding or-refuse _>>=_
     with-trait q = by-trait q
 

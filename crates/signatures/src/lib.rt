@@ -16,11 +16,11 @@ ghost use Rattle.answers.specs.Answers.{answer-of, Comes};
 ghost use Rattle.signatures.specs.Opens.{Opens};
 
 // The signatures' words, as far as they fit. 3, then 4, then what the trait's functions come to.
-pub fn signatures(image: &[u8], l: Layout, number: u32, out: &mut [u8]) -> Outcome
+pub fn signatures(image: &[u8], l: Layout, number: TypeId, out: &mut [u8]) -> Outcome
     requires { ⌜ Cut (now image) l × Opens (now image) l ⌝ }
-    ensures { λ r. ⌜ ((s : CompiledSchema) → Open (now (image .entry)) l s → Comes (signatures-call number s) (now (out .entry)) (now (out .exit)) r) ⌝ }
+    ensures { λ r. ⌜ ((s : CompiledSchema) → Open (now (image .entry)) l s → Comes (signatures-call (number .0) s) (now (out .entry)) (now (out .exit)) r) ⌝ }
 {
-    let i = traits::find::find_implementation(image, l, TypeId(number));
+    let i = traits::find::find_implementation(image, l, number);
     if !i.ok {
         return answers::answer::refused(Refusal::alone(3));
     }
@@ -40,12 +40,12 @@ pub fn signatures(image: &[u8], l: Layout, number: u32, out: &mut [u8]) -> Outco
 pub fn signatures_readable(
     image: &[u8],
     l: Layout,
-    number: u32,
+    number: TypeId,
     output: &mut [u8],
     detail: &mut [u8],
 ) -> Answer
     requires { ⌜ Cut (now image) l × Opens (now image) l × (576 ≤ length (now detail)) ⌝ }
-    ensures { λ r. ⌜ ((s : CompiledSchema) → Open (now (image .entry)) l s → answer-of r (now (output .exit)) (now (detail .exit)) ≡ finished (signatures-call number s) (now (output .entry)) (now (detail .entry))) ⌝ }
+    ensures { λ r. ⌜ ((s : CompiledSchema) → Open (now (image .entry)) l s → answer-of r (now (output .exit)) (now (detail .exit)) ≡ finished (signatures-call (number .0) s) (now (output .entry)) (now (detail .entry))) ⌝ }
 {
     let m = signatures(image, l, number, &mut output[..0]);
     if !m.ok {

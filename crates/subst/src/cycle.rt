@@ -124,7 +124,7 @@ pub fn substitute_type(image: &[u8], l: Layout, at: usize, left: u32, params: &[
     if pool.len <= at {
         return failed();
     }
-    let k = kinds::type_kind(reading::section_word(image, pool, at));
+    let k = codes::type_kind(reading::section_word(image, pool, at));
     match k {
         TypeKind::Plain => subst_leaves::leaf(image, l, at, left - 1),
         TypeKind::Sub => subst_leaves::leaf(image, l, at, left - 1),

@@ -9,8 +9,8 @@ use native.Mathlib.Decide.{decLe}
 use Rattle.rules.specs.Syntax.{TypeDef, CompiledSchema}
 use Rattle.rules.specs.Options.{then}
 use Rattle.rules.specs.Substitute.{get}
-use Rattle.rules.specs.Signatures.{is-trait}
-use Rattle.rules.specs.Project.{is-implementation}
+use Rattle.rules.specs.Signatures.{as-trait}
+use Rattle.rules.specs.Project.{as-implementation}
 use Rattle.rules.specs.declared.kinds.DefinitionKind.{DefinitionKind}
 use Rattle.reading.specs.Gives.{of}
 use Rattle.layout.specs.declared.Layout.{Layout}
@@ -40,22 +40,22 @@ module _ {image : List ℕ} {l : Layout} {s : CompiledSchema} (o : Open image l 
           let k : Alike (e .0) = rw (row .kind below, row .start below) (o .definition d (e .0) (e .1)) in
           record { is = subst (λ (x : Option TypeDef). Agrees Q (then x is) f) (sym (e .1)) (each (e .0) k) }
 
-  pub finds-impl : {b : Bool} → b ≡ is-impl-kind (r .kind) → Finds (Impl-here image l) (then (get s d) is-implementation) (record { ok = b; start = r .start })
-  unfolding is-implementation
-  finds-impl {b} e = by-row (Impl-here image l) is-implementation _ go (λ k. e ∙ ap is-impl-kind k)
+  pub finds-impl : {b : Bool} → b ≡ is-impl-kind (r .kind) → Finds (Impl-here image l) (then (get s d) as-implementation) (record { ok = b; start = r .start })
+  unfolding as-implementation
+  finds-impl {b} e = by-row (Impl-here image l) as-implementation _ go (λ k. e ∙ ap is-impl-kind k)
     where
-      go : (t : TypeDef) → Alike t → Agrees (Impl-here image l) (is-implementation t) (record { ok = b; start = r .start })
+      go : (t : TypeDef) → Alike t → Agrees (Impl-here image l) (as-implementation t) (record { ok = b; start = r .start })
       go TypeDef.other k = e ∙ ap is-impl-kind k
       go (TypeDef.message m) k = e ∙ ap is-impl-kind (k .0)
       go (TypeDef.generic-alias a) k = e ∙ ap is-impl-kind (k .0)
       go (TypeDef.trait t) k = e ∙ ap is-impl-kind (k .0)
       go (TypeDef.implementation i) k = (e ∙ ap is-impl-kind (k .0), k .1 .next, of (implementation-gives (l .names .rows) (l .strings .rows) (pool-words image l) (r .start)) (k .1 .read) .1)
 
-  pub finds-trait : {b : Bool} → b ≡ is-trait-kind (r .kind) → Finds (Trait-here image l) (then (get s d) is-trait) (record { ok = b; start = r .start })
-  unfolding is-trait
-  finds-trait {b} e = by-row (Trait-here image l) is-trait _ go (λ k. e ∙ ap is-trait-kind k)
+  pub finds-trait : {b : Bool} → b ≡ is-trait-kind (r .kind) → Finds (Trait-here image l) (then (get s d) as-trait) (record { ok = b; start = r .start })
+  unfolding as-trait
+  finds-trait {b} e = by-row (Trait-here image l) as-trait _ go (λ k. e ∙ ap is-trait-kind k)
     where
-      go : (t : TypeDef) → Alike t → Agrees (Trait-here image l) (is-trait t) (record { ok = b; start = r .start })
+      go : (t : TypeDef) → Alike t → Agrees (Trait-here image l) (as-trait t) (record { ok = b; start = r .start })
       go TypeDef.other k = e ∙ ap is-trait-kind k
       go (TypeDef.message m) k = e ∙ ap is-trait-kind (k .0)
       go (TypeDef.generic-alias a) k = e ∙ ap is-trait-kind (k .0)

@@ -6,8 +6,8 @@ ghost use mathlib.Core.Path.{_≡_};
 ghost use Rattle.rules.specs.Syntax.{CompiledSchema};
 ghost use Rattle.rules.specs.Options.{then};
 ghost use Rattle.rules.specs.Substitute.{get};
-ghost use Rattle.rules.specs.Signatures.{is-trait};
-ghost use Rattle.rules.specs.Project.{is-implementation};
+ghost use Rattle.rules.specs.Signatures.{as-trait};
+ghost use Rattle.rules.specs.Project.{as-implementation};
 ghost use Rattle.layout.specs.Rows.{Inside};
 ghost use Rattle.layout.specs.Open.{Open};
 ghost use Rattle.traits.specs.Found.{is-impl-kind, is-trait-kind, Finds, Impl-here, Trait-here};
@@ -46,7 +46,7 @@ fn is_trait(k: DefinitionKind) -> bool
 
 pub fn find_implementation(image: &[u8], l: Layout, number: TypeId) -> Found
     requires { ⌜ Inside (now image) l ⌝ }
-    ensures { λ r. ⌜ ((s : CompiledSchema) → Open (now (image .entry)) l s → Finds (Impl-here (now (image .entry)) l) (then (get s (number .0)) is-implementation) r) ⌝ }
+    ensures { λ r. ⌜ ((s : CompiledSchema) → Open (now (image .entry)) l s → Finds (Impl-here (now (image .entry)) l) (then (get s (number .0)) as-implementation) r) ⌝ }
 {
     let row = layout::definition_row(image, l, number);
     let k = row.kind;
@@ -58,7 +58,7 @@ pub fn find_implementation(image: &[u8], l: Layout, number: TypeId) -> Found
 
 pub fn find_trait(image: &[u8], l: Layout, number: TypeId) -> Found
     requires { ⌜ Inside (now image) l ⌝ }
-    ensures { λ r. ⌜ ((s : CompiledSchema) → Open (now (image .entry)) l s → Finds (Trait-here (now (image .entry)) l) (then (get s (number .0)) is-trait) r) ⌝ }
+    ensures { λ r. ⌜ ((s : CompiledSchema) → Open (now (image .entry)) l s → Finds (Trait-here (now (image .entry)) l) (then (get s (number .0)) as-trait) r) ⌝ }
 {
     let row = layout::definition_row(image, l, number);
     let k = row.kind;

@@ -13,7 +13,7 @@ use Rattle.rules.specs.Types.{is-numeric, is-signed-numeric, is-equality-type, 
 use Rattle.laws.specs.Good.{Good}
 use Rattle.held.specs.declared.types.HeldType.{HeldType}
 use Rattle.held.specs.Holds.{Holds}
-use Rattle.kinds.proofs.Codes.{in-within, off-within, primitive-in, semantic-in}
+use Rattle.codes.proofs.Codes.{in-within, off-within, primitive-in, semantic-in}
 use Rattle.types.proofs.Heads.{word, word-of, held-word, Off, one-off, two-off, plain-not-sub, same-plain}
 
 unfoldable pub numeric-code : ℕ → Bool

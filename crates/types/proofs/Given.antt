@@ -10,7 +10,7 @@ use Rattle.held.specs.declared.types.HeldType.{HeldType}
 use Rattle.held.specs.declared.types.MaybeType.{MaybeType}
 use Rattle.held.specs.Runs.{Runs}
 use Rattle.held.specs.Holds.{MaybeHolds, Each}
-use Rattle.kinds.proofs.Codes.{primitive-in}
+use Rattle.codes.proofs.Codes.{primitive-in}
 use Rattle.held.proofs.Trees.{plain-holds}
 use Rattle.types.specs.Literals.{literal-type}
 

@@ -16,7 +16,7 @@ use Rattle.laws.specs.Same.{same-false, same-type-self}
 use Rattle.held.specs.declared.types.HeldType.{HeldType}
 use Rattle.held.specs.Runs.{held-run}
 use Rattle.held.specs.Holds.{Holds}
-use Rattle.kinds.proofs.Codes.{sub-at, primitive-in}
+use Rattle.codes.proofs.Codes.{sub-at, primitive-in}
 
 -- the i-th word of a held type, and of a type
 abbrev pub word : HeldType → ℕ → ℕ

@@ -17,7 +17,7 @@ use Rattle.laws.specs.Good.{Good}
 use Rattle.held.specs.declared.types.HeldType.{HeldType}
 use Rattle.held.specs.Runs.{held-run}
 use Rattle.held.specs.Holds.{Holds}
-use Rattle.kinds.proofs.Codes.{named-at}
+use Rattle.codes.proofs.Codes.{named-at}
 use Rattle.types.specs.Headers.{header-of}
 use Rattle.types.proofs.Walk.{front-poison, front-header, behind, poison-in, poisoned, poisoned-step}
 

@@ -11,7 +11,7 @@ use Rattle.rules.specs.Words.{same}
 use Rattle.rules.specs.Types.{VOID, same-type, normalize-return, return-words, same-return}
 use Rattle.held.specs.declared.types.MaybeType.{MaybeType}
 use Rattle.held.specs.Holds.{Holds, MaybeHolds}
-use Rattle.kinds.proofs.Codes.{primitive-in}
+use Rattle.codes.proofs.Codes.{primitive-in}
 use Rattle.types.specs.Tests.{Same}
 use Rattle.types.proofs.Heads.{word, held-word, same-plain}
 

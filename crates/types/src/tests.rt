@@ -4,9 +4,9 @@ ghost use Rattle.rules.specs.Types.{is-numeric, is-signed-numeric, is-equality-
 ghost use Rattle.held.specs.Holds.{Each, EachMaybe, MaybeHolds};
 ghost use Rattle.types.specs.Tests.{Same};
 ghost use Rattle.types.specs.Headers.{header-of, poison-words};
+use codes::type_kind;
 use held::types::HeldType;
 use held::types::MaybeType;
-use kinds::type_kind;
 use rules::ids::PrimitiveType;
 use rules::ids::TypeId;
 use rules::kinds::TypeKind;

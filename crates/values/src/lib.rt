@@ -91,7 +91,7 @@ pub fn write_expr(
         image,
         l,
         at,
-        leaf_size(kinds::expr_kind(code)),
+        leaf_size(codes::expr_kind(code)),
         out,
         limit,
         next,

@@ -20,7 +20,7 @@ use Rattle.pool_type_exprs.proofs.check_type_expr_tree.Reads as check-t
 use Rattle.pool_type_exprs.proofs.check_type_expr_tree.Kinds as check-type-expr-tree-kinds
 use Rattle.pool_type_exprs.proofs.+check_expr_part+check_type_expr_tree.Lts-check_type_expr_tree as check-type-expr-tree-lts
 use Rattle.pool_type_exprs.proofs.check_qualified.Reads as check-qualified-reads
-use Rattle.kinds.proofs.type_kind.Reads as type-kind-reads
+use Rattle.codes.proofs.type_kind.Reads as type-kind-reads
 use Rattle.pool_types.proofs.parts.check_bits.Reads as check-bits-reads
 use Rattle.pool_types.proofs.parts.check_sub.Reads as check-sub-reads
 use Rattle.pool_types.proofs.parts.check_wide.Reads as check-wide-reads

@@ -21,7 +21,7 @@ refused-requires : tie.Need-refused-requires
 refused-requires c κs = search needs
 
 returns : tie.Need-returns
-returns c = λ s o. comes-err (no-impl s (c .before .before .before .before .before .before .before .args .number) (lacks (c .before .before .before .before .find-implementation .ensures s o) (not-true _ (c .before .before .if1 .taken)))) (c .refused .ensures .0) (ap refusal-of (c .refused .ensures .1) ∙ c .before .alone .ensures)
+returns c = λ s o. comes-err (no-impl s (c .before .before .before .before .before .before .before .args .number .0) (lacks (c .before .before .before .before .find-implementation .ensures s o) (not-true _ (c .before .before .if1 .taken)))) (c .refused .ensures .0) (ap refusal-of (c .refused .ensures .1) ∙ c .before .alone .ensures)
 
 section-word-requires : tie.Need-section-word-requires
 section-word-requires c κs = search needs
@@ -43,7 +43,7 @@ refused-requires-2 c κs = search needs
 
 returns-2 : tie.Need-returns-2
 returns-2 c = λ s o. let h = has (c .before .before .before .before .before .before .before .before .before .before .find-implementation .ensures s o) (not-false _ (c .before .before .before .before .before .before .before .before .if1 .left)) in
-    comes-err (no-trait s (c .before .before .before .before .before .before .before .before .before .before .before .before .before .args .number) (h .is) (no-trait-at s (c .before .before .before .before .before .before .section-word .ensures ∙ h .stands .parts .id-at .is) (c .before .before .before .before .before .find-trait .ensures s o) (not-true _ (c .before .before .before .if2 .taken)))) (c .refused2 .ensures .0) (ap refusal-of (c .refused2 .ensures .1) ∙ c .before .named .ensures ∙ ap (with-name 4 NONE) (c .before .before .section-word2 .ensures ∙ h .stands .parts .name-at .is))
+    comes-err (no-trait s (c .before .before .before .before .before .before .before .before .before .before .before .before .before .args .number .0) (h .is) (no-trait-at s (c .before .before .before .before .before .before .section-word .ensures ∙ h .stands .parts .id-at .is) (c .before .before .before .before .before .find-trait .ensures s o) (not-true _ (c .before .before .before .if2 .taken)))) (c .refused2 .ensures .0) (ap refusal-of (c .refused2 .ensures .1) ∙ c .before .named .ensures ∙ ap (with-name 4 NONE) (c .before .before .section-word2 .ensures ∙ h .stands .parts .name-at .is))
 
 add-hold-type : tie.Need-add-hold-type
 add-hold-type c = let h = has (c .before .before .before .before .before .before .before .find-implementation .ensures (c .before .before .before .before .before .before .before .before .before .before .pre .1 .schema) (c .before .before .before .before .before .before .before .before .before .before .pre .1 .opened)) (not-false _ (c .before .before .before .before .before .if1 .left)) in omega (arith, pool-small (c .before .before .before .before .before .before .before .before .before .before .pre .0 .inside) (h .stands .parts .id-at .inside))
@@ -65,7 +65,7 @@ same-length c = search needs
 returns-3 : tie.Need-returns-3
 returns-3 c = λ s o. let h = has (c .before .before .before .before .before .before .before .before .before .before .before .before .find-implementation .ensures s o) (not-false _ (c .before .before .before .before .before .before .before .before .before .before .if1 .left)) in
     let t = trait-at s (c .before .before .before .before .before .before .before .before .section-word .ensures ∙ h .stands .parts .id-at .is) (c .before .before .before .before .before .before .before .find-trait .ensures s o) (not-false _ (c .before .before .before .before .before .if2 .left)) in
-    comes-same (with-trait s (c .before .before .before .before .before .before .before .before .before .before .before .before .before .before .before .args .number) (h .is) (t .is)) (c .before .before .expected-functions .ensures (asked o h t (c .before .before .before .before .hold-type .ensures)))
+    comes-same (with-trait s (c .before .before .before .before .before .before .before .before .before .before .before .before .before .before .before .args .number .0) (h .is) (t .is)) (c .before .before .expected-functions .ensures (asked o h t (c .before .before .before .before .hold-type .ensures)))
 
 pub signatures-spec : {M : Type 1} → statement M
 signatures-spec =

@@ -31,7 +31,7 @@ use Rattle.values.proofs.write_unary.Reads as write-unary
 use Rattle.values.proofs.write_unary.Kinds as write-unary-kinds
 use Rattle.values.proofs.+write_binary+write_expr+write_unary.Lts-write_unary as write-unary-lts
 use Rattle.foretold.proofs.operand_type.Reads as operand-type-reads
-use Rattle.kinds.proofs.expr_kind.Reads as expr-kind-reads
+use Rattle.codes.proofs.expr_kind.Reads as expr-kind-reads
 use Rattle.places.proofs.first_part.Reads as first-part-reads
 use Rattle.places.proofs.operand.Reads as operand-reads
 use Rattle.places.proofs.skip_expr.Reads as skip-expr-reads

@@ -2,7 +2,7 @@
 use borrow.Author.Needs.{needs}
 use lib.Dec.{lit<}
 use borrow.Author.Tests.{lt-ltb, le-ltb}
-use Rattle.kinds.proofs.Codes.{primitive-in}
+use Rattle.codes.proofs.Codes.{primitive-in}
 use Rattle.held.proofs.Trees.{plain-holds}
 use Rattle.inferred.proofs.operators.result_type.Statement.{statement}
 use Rattle.inferred.proofs.operators.result_type.Tie as tie

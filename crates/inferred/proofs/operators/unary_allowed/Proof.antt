@@ -4,7 +4,7 @@ use mathlib.Core.Path.{sym, _∙_}
 use lib.Dec.{lit<}
 use borrow.Author.Tests.{eq-eqb, ne-eqb}
 use Rattle.rules.specs.Types.{BOOL}
-use Rattle.kinds.proofs.Codes.{primitive-in}
+use Rattle.codes.proofs.Codes.{primitive-in}
 use Rattle.held.proofs.Trees.{plain-holds}
 use Rattle.inferred.specs.Operators.{allowed-signed, allowed-bool}
 use Rattle.inferred.proofs.operators.unary_allowed.Statement.{statement}

@@ -11,7 +11,7 @@ use Rattle.rules.specs.Substitute.{primitive}
 use Rattle.layout.specs.Open.{AliasStands, pool-words}
 use Rattle.held.specs.declared.types.HeldType.{HeldType}
 use Rattle.held.specs.Holds.{Holds, MaybeHolds}
-use Rattle.kinds.proofs.Codes.{primitive-in}
+use Rattle.codes.proofs.Codes.{primitive-in}
 use Rattle.held.proofs.Trees.{plain-holds}
 use Rattle.lookups.specs.Codes.{primitive-type, no-primitive, no-alias, some-alias}
 use Rattle.lookups.specs.Names.{row, primitive-alias}

@@ -30,7 +30,7 @@ use Rattle.pool_bodies.proofs.expressions.+check_call+check_expr+check_
 use Rattle.pool_bodies.proofs.expressions.check_operand.Reads as check-operand
 use Rattle.pool_bodies.proofs.expressions.check_operand.Kinds as check-operand-kinds
 use Rattle.pool_bodies.proofs.expressions.+check_call+check_expr+check_exprs+check_method+check_operand.Lts-check_operand as check-operand-lts
-use Rattle.kinds.proofs.expr_kind.Reads as expr-kind-reads
+use Rattle.codes.proofs.expr_kind.Reads as expr-kind-reads
 use Rattle.pool_types.proofs.parts.check_wide.Reads as check-wide-reads
 use Rattle.reading.proofs.check_below.Reads as check-below-reads
 use Rattle.reading.proofs.check_word.Reads as check-word-reads

@@ -12,7 +12,7 @@ use Rattle.pool_definitions.proofs.traits.listed.Statement.{statement}
 use Rattle.pool_definitions.proofs.traits.listed.Tie as tie
 
 abbrev Inv-loop : tie.InvT-loop
-Inv-loop xs x i₀ i = (i ≤ length xs) × (member x (take i xs) ≡ false)
+Inv-loop xs x i₀ i = (i ≤ length xs) × (member (x .0) (take i xs) ≡ false)
 
 abbrev μ-loop : tie.MeasureT-loop
 μ-loop xs x i₀ i = length xs - i
@@ -26,8 +26,8 @@ listed-spec =
     (λ c. (omega arith, member-none _))
     (λ c. search needs)
     (λ c. search needs)
-    (λ c. sym (member-at _ _ _ (c .before .before .loop-test .taken) (c .if1 .taken)))
+    (λ c. sym (member-at _ _ _ (c .before .before .before .loop-test .taken) (c .if1 .taken)))
     (λ c. search needs)
     (λ c. search needs)
-    (λ c. (omega arith, member-step _ _ _ (c .before .before .loop-test .taken) (c .if1 .left) (c .before .before .before .loop .inv .1)))
-    (λ c. sym (c .before .loop .inv .1) ∙ ap (member (c .before .before .args .x)) (take-all _ _ (c .loop-test .left))))
+    (λ c. (omega arith, member-step _ _ _ (c .before .before .before .loop-test .taken) (c .if1 .left) (c .before .before .before .before .loop .inv .1)))
+    (λ c. sym (c .before .loop .inv .1) ∙ ap (member (c .before .before .args .x .0)) (take-all _ _ (c .loop-test .left))))

@@ -19,7 +19,7 @@ use Rattle.pool_types.proofs.resolved.+check_part+check_tree.Lts-check_
 use Rattle.pool_types.proofs.resolved.check_tree.Reads as check-tree
 use Rattle.pool_types.proofs.resolved.check_tree.Kinds as check-tree-kinds
 use Rattle.pool_types.proofs.resolved.+check_part+check_tree.Lts-check_tree as check-tree-lts
-use Rattle.kinds.proofs.type_kind.Reads as type-kind-reads
+use Rattle.codes.proofs.type_kind.Reads as type-kind-reads
 use Rattle.pool_types.proofs.parts.check_bits.Reads as check-bits-reads
 use Rattle.pool_types.proofs.parts.check_sub.Reads as check-sub-reads
 use Rattle.pool_types.proofs.parts.check_wide.Reads as check-wide-reads

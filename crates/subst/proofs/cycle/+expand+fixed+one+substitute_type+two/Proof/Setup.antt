@@ -5,7 +5,7 @@ use borrow.Fn.PlainCycle.{Measures, is, falls, and}
 use Rattle.held.proofs.types.HeldType.fixed.Reads as fixed-reads
 use Rattle.held.proofs.types.HeldType.one.Reads as one-reads
 use Rattle.held.proofs.types.HeldType.two.Reads as two-reads
-use Rattle.kinds.proofs.type_kind.Reads as type-kind-reads
+use Rattle.codes.proofs.type_kind.Reads as type-kind-reads
 use Rattle.lookups.proofs.generic.lookup_alias.Reads as lookup-alias-reads
 use Rattle.reading.proofs.section_word.Reads as section-word-reads
 use Rattle.scope.proofs.rows.Reads as rows-reads

@@ -1,8 +1,8 @@
 -- Each branch's tests open the definition's.
 use borrow.Author.Tests.{ne-eqb}
 use Rattle.rules.specs.Kinds.{definition-kind}
-use Rattle.kinds.proofs.definition_kind.Statement.{statement}
-use Rattle.kinds.proofs.definition_kind.Tie as tie
+use Rattle.codes.proofs.definition_kind.Statement.{statement}
+use Rattle.codes.proofs.definition_kind.Tie as tie
 
 returns : tie.Need-returns
 unfolding definition-kind

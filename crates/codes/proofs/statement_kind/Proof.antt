@@ -1,8 +1,8 @@
 -- Each branch's tests open the definition's.
 use borrow.Author.Tests.{ne-eqb}
 use Rattle.rules.specs.Kinds.{statement-kind}
-use Rattle.kinds.proofs.statement_kind.Statement.{statement}
-use Rattle.kinds.proofs.statement_kind.Tie as tie
+use Rattle.codes.proofs.statement_kind.Statement.{statement}
+use Rattle.codes.proofs.statement_kind.Tie as tie
 
 returns : tie.Need-returns
 unfolding statement-kind

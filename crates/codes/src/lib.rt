@@ -55,7 +55,7 @@ pub fn statement_kind(code: u32) -> StatementKind
     ensures { λ r. ⌜ r ≡ statement-kind code ⌝ }
 {
     if code == 0 {
-        StatementKind::Plain
+        StatementKind::Expr
     } else if code == 1 {
         StatementKind::Let
     } else if code == 2 {

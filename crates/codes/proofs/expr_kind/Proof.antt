@@ -1,8 +1,8 @@
 -- Each branch's tests open the definition's.
 use borrow.Author.Tests.{le-ltb, lt-ltb, ne-eqb}
 use Rattle.rules.specs.Kinds.{expr-kind}
-use Rattle.kinds.proofs.expr_kind.Statement.{statement}
-use Rattle.kinds.proofs.expr_kind.Tie as tie
+use Rattle.codes.proofs.expr_kind.Statement.{statement}
+use Rattle.codes.proofs.expr_kind.Tie as tie
 
 returns : tie.Need-returns
 unfolding expr-kind

@@ -1,8 +1,8 @@
--- `kinds::type_kind` meets its contract, by the laws of the codes. Assumes nothing.
+-- `codes::type_kind` meets its contract, by the laws of the codes. Assumes nothing.
 use mathlib.Core.Path.{sym}
-use Rattle.kinds.proofs.Codes.{sub-at, named-at, qualified-at, generic-at, fixed-at, bits-at, one-at, primitive-in, semantic-in, low-one-in, high-one-in, two-in, low-off, middle-off, high-off}
-use Rattle.kinds.proofs.type_kind.Statement.{statement}
-use Rattle.kinds.proofs.type_kind.Tie as tie
+use Rattle.codes.proofs.Codes.{sub-at, named-at, qualified-at, generic-at, fixed-at, bits-at, one-at, primitive-in, semantic-in, low-one-in, high-one-in, two-in, low-off, middle-off, high-off}
+use Rattle.codes.proofs.type_kind.Statement.{statement}
+use Rattle.codes.proofs.type_kind.Tie as tie
 
 pub type-kind-spec : {M : Type 1} → statement M
 type-kind-spec =
