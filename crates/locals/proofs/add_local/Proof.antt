@@ -11,7 +11,7 @@ returns c rows ps t w h =
     let a = c .before .before .before .before .before .before .before .before .args in
     let p = c .before .before .before .before .before .before .before .before .pre in
     let n = c .before .before .before .before .count in
-    added rows (now (a .names)) (now (a .words)) _ (now (a .lens)) (a .i) (a .name .0) (n .result) (a .ty) (c .before .before .fill-row .ensures) ps t (p .0) (omega arith) (omega arith) (n .ensures .0) (n .ensures .1) w h
+    added rows (now (a .names)) (now (a .words)) _ (now (a .lens)) (a .i) (a .name .0) _ (a .ty) (c .before .before .fill-row .ensures) ps t (p .0) (omega arith) (omega arith) (omega (arith, n .ensures .0)) (omega (arith, n .ensures .1)) w h
 
 pub add-local-spec : {M : Type 1} → statement M
 add-local-spec =
