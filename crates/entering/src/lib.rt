@@ -1,5 +1,6 @@
 // The signature that a trait function asks for, held: its parameters in the table of locals, its return beside; and its words written from there.
 use held::types::MaybeType;
+use layout::Layout;
 use rules::ids::NameId;
 ghost use Prim.Native.Nat.{ℕ, _≤_};
 ghost use mathlib.Core.List.{List};
@@ -7,10 +8,67 @@ ghost use mathlib.Core.Option.{Option};
 ghost use lib.ListN.{length};
 ghost use Rattle.rules.specs.Syntax.{ResolvedType, Param};
 ghost use Rattle.rules.specs.Types.{return-words};
+ghost use Rattle.rules.specs.Signatures.{resolve-params};
 ghost use Rattle.rules.specs.Output.{param-words, listed, signature-words};
+ghost use Rattle.layout.specs.Rows.{Cut};
 ghost use Rattle.held.specs.Holds.{MaybeHolds};
 ghost use Rattle.locals.specs.Rows.{Row, Rows};
 ghost use Rattle.writing.specs.Written.{Written};
+ghost use Rattle.signature.specs.Here.{Params-here};
+ghost use Rattle.entering.specs.Entered.{Entered-says};
+
+// Whether the parameters keep the bounds; then how many they are, and the place behind them in the pool.
+pub struct Entered {
+    pub ok: bool,
+    pub count: usize,
+    pub next: usize,
+}
+
+// Whether the return keeps the bounds; then its type or none, and the place behind it in the pool.
+pub struct Returned {
+    pub ok: bool,
+    pub ty: MaybeType,
+    pub next: usize,
+}
+
+// A trait function's parameters, substituted: a row of the table for each.
+pub fn enter_params(
+    image: &[u8],
+    l: Layout,
+    at: usize,
+    params: &[u32],
+    names: &mut [u32],
+    words: &mut [u32],
+    lens: &mut [u32],
+) -> Entered
+    requires { ⌜ Cut (now image) l × Params-here (now image) l (now params) at × (64 ≤ length (now names)) × (4096 ≤ length (now words)) × (64 ≤ length (now lens)) ⌝ }
+    ensures { λ r. ⌜ ((h : Params-here (now (image .entry)) l (now (params .entry)) at) → Entered-says (l .names .rows) (resolve-params (h .schema) (h .seen) (h .tree)) (h .behind) (now (names .exit)) (now (words .exit)) (now (lens .exit)) r) ⌝ }
+{
+    let pool = l.pool;
+    let count = reading::section_word(image, pool, at) as usize;
+    let mut next = at + 1;
+    let mut i = 0;
+    while i < count {
+        let s = subst::whole::substitute(image, l, next + 1, params);
+        if !s.ok {
+            return Entered {
+                ok: false,
+                count: 0,
+                next: 0,
+            };
+        }
+        let ty = s.ty;
+        let name = NameId(reading::section_word(image, pool, next));
+        locals::add_local(names, words, lens, i, name, ty);
+        next = s.next;
+        i += 1;
+    }
+    Entered {
+        ok: true,
+        count: i,
+        next,
+    }
+}
 
 // A row's name, and its type's words.
 fn put_param(
