@@ -3,3 +3,4 @@ pub mod Puts
 pub mod PutParts
 pub mod Resolves
 pub mod Enters
+pub mod Returns
