@@ -68,14 +68,14 @@ module _ {image : List ℕ} {l : Layout} {params : List ℕ} {at : ℕ} (h : Par
       turn-stops s a e d = says-large (v .large (stop-o (v .left) (v .row) (omega (arith, v .count)) s a e)) d
 
       module _ (names′ words′ lens′ : List ℕ) (s : Substituted) (x : ℕ) where
-        -- a row was added
-        abbrev Added : Type 0
-        Added = (n : ℕ) (ps : List (Param ResolvedType)) (t : ResolvedType) → Rows n names words lens i 0 ps → Holds n (s .ty) t → Rows n names′ words′ lens′ (i + 1) 0 (ps ++ (record { name = x; ty = t } ∷ []))
+        -- a local was added as row j
+        abbrev Added : ℕ → Type 0
+        Added j = (n : ℕ) (ps : List (Param ResolvedType)) (t : ResolvedType) → Rows n names words lens j 0 ps → Holds n (s .ty) t → Rows n names′ words′ lens′ (j + 1) 0 (ps ++ (record { name = x; ty = t } ∷ []))
 
         go-o : (left : List (Param TypeExpr)) → Row (Param-stands image l) left next (h .behind) → i + length left ≡ length (h .tree)
             → (resolve-params (h .schema) (h .seen) left ≡ too-large → Whole ≡ too-large)
             → ((w : ℕ) (ts : List (Param ResolvedType)) → resolve-params (h .schema) (h .seen) left ≡ done w ts → (u : ℕ) × (Whole ≡ done u (v .made ++ ts)))
-            → AnswersAll image l (next + 1) params s → s .ok ≡ true → x ≡ getD (pool-words image l) next 0 → Added → Left (i + 1) (s .next) names′ words′ lens′
+            → AnswersAll image l (next + 1) params s → s .ok ≡ true → x ≡ getD (pool-words image l) next 0 → Added i → Left (i + 1) (s .next) names′ words′ lens′
         go-o [] w c large makes a e g f = absurd (omega arith)
         go-o (q ∷ qs) w c large makes a e g f =
             let k = taken (l .names .rows) (w .0) s (substitute-type (h .schema) (h .seen) (q .ty)) (a (h .schema) (h .opened) (h .seen) (h .views) (q .ty) (w .0) (expr-here (w .1 .type-at))) e in
@@ -94,8 +94,8 @@ module _ {image : List ℕ} {l : Layout} {params : List ℕ} {at : ℕ} (h : Par
             }
 
         -- it is entered
-        pub turn-goes : AnswersAll image l (next + 1) params s → s .ok ≡ true → x ≡ getD (pool-words image l) next 0 → Added → Left (i + 1) (s .next) names′ words′ lens′
-        turn-goes a e g f = go-o (v .left) (v .row) (v .count) (v .large) (v .makes) a e g f
+        pub turn-goes : (j : ℕ) → AnswersAll image l (next + 1) params s → s .ok ≡ true → x ≡ getD (pool-words image l) next 0 → Added j → j ≡ i → Left (i + 1) (s .next) names′ words′ lens′
+        turn-goes j a e g f q = go-o (v .left) (v .row) (v .count) (v .large) (v .makes) a e g (subst (λ (k : ℕ). Added k) q f)
 
     abbrev End : Type 0
     End = Entered-says (l .names .rows) Whole (h .behind) names words lens (record { ok = true; count = i; next = next })

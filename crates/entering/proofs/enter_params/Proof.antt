@@ -43,7 +43,7 @@ loop-again c =
       k .1 .0 ∙ v .1,
       k .1 .1 .0 ∙ v .2,
       λ h.
-          turn-goes h (v .3 h) (omega (arith, c .before .before .before .before .before .before .before .before .before .before .before .before .before .before .before .before .before .section-word .ensures, h .stands .0 .is)) _ _ _ (c .before .before .before .before .before .before .before .before .before .before .before .before .before .before .substitute .result) _ (c .before .before .before .before .before .before .before .before .before .before .before .before .before .before .substitute .ensures) (not-false _ (c .before .before .before .before .before .before .before .before .before .before .before .before .if1 .left)) (c .before .before .before .before .before .before .before .before .before .before .section-word2 .ensures) (c .before .before .before .before .before .before .add-local .ensures),
+          turn-goes h (v .3 h) (omega (arith, c .before .before .before .before .before .before .before .before .before .before .before .before .before .before .before .before .before .section-word .ensures, h .stands .0 .is)) _ _ _ (c .before .before .before .before .before .before .before .before .before .before .before .before .before .before .substitute .result) _ _ (c .before .before .before .before .before .before .before .before .before .before .before .before .before .before .substitute .ensures) (not-false _ (c .before .before .before .before .before .before .before .before .before .before .before .before .if1 .left)) (c .before .before .before .before .before .before .before .before .before .before .section-word2 .ensures) (c .before .before .before .before .before .before .add-local .ensures) (omega arith),
     )
 
 returns-2 : tie.Need-returns-2 Inv-loop μ-loop
