@@ -1,0 +1,5 @@
+pub mod Made
+pub mod Agree
+pub mod Coming
+pub mod Targets
+pub mod Wanted

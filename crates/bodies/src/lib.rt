@@ -1,0 +1,4 @@
+// The typed statements of one function.
+pub mod assigns;
+pub mod parts;
+pub mod step;
