@@ -1,6 +1,6 @@
 -- Where a function's parts end, as the checks of the pool say it.
-use Prim.Native.Nat.{ℕ, _+_, _<_, _≤_}
-use mathlib.Core.Path.{_≡_, refl, sym, ap, subst, _∙_}
+use Prim.Native.Nat.{ℕ, _+_, _<_}
+use mathlib.Core.Path.{_≡_, sym, ap, subst, _∙_}
 use mathlib.Core.Bool.{true, false}
 use mathlib.Core.List.{List, [], _∷_, _++_, append-assoc}
 use mathlib.Core.Option.{Option, none, some}
@@ -12,10 +12,10 @@ use Rattle.rules.specs.Syntax.{ResolvedType, run, Param}
 use Rattle.rules.specs.Reader.{many, maybe}
 use Rattle.rules.specs.ReadTypes.{resolved-type, param}
 use Rattle.rules.specs.Output.{each, listed}
-use Rattle.laws.specs.Good.{All, AllOption}
-use Rattle.laws.specs.Exact.{optional, maybe-exact}
+use Rattle.laws.specs.Good.{All}
+use Rattle.laws.specs.Exact.{maybe-exact}
 use Rattle.laws.specs.Types.{Stored, type-exact}
-use Rattle.laws.specs.DefinitionRuns.{Few, typed-words, GoodParam}
+use Rattle.laws.specs.DefinitionRuns.{typed-words, GoodParam}
 use Rattle.laws.specs.Definitions.{few-exact, param-exact}
 use Rattle.held.specs.declared.types.HeldType.{HeldType}
 use Rattle.held.specs.declared.types.MaybeType.{MaybeType}
