@@ -1,7 +1,7 @@
 // An implementation's function against the signature that its trait asks for.
 mod mismatch;
 mod params;
-pub mod parts;
+mod parts;
 
 use answers::answer::Outcome;
 use held::types::MaybeType;
