@@ -25,10 +25,10 @@ module _ (limit to : ℕ) where
   param-written p {r = r} {xs = xs} {zs = zs} e h v w = subst (λ (k : ℕ). Written limit to (k ∷ run (p .ty)) xs r zs) e (written-then limit to v (w (run (p .ty)) (runs-of h)))
 
   module _ (rows : ℕ) (m : MaybeType) where
-    pub none-written : (o : Option ResolvedType) {r : ℕ} {xs zs : List ℕ} → MaybeHolds rows m o → m .some ≡ false → Written limit to (0 ∷ []) xs r zs → Written limit to (return-words o) xs r zs
+    pub none-written : (o : Option ResolvedType) {k r : ℕ} {xs zs : List ℕ} → MaybeHolds rows m o → m .some ≡ false → Written limit to (k ∷ []) xs r zs → k ≡ 0 → Written limit to (return-words o) xs r zs
     unfolding return-words
-    none-written none h e w = w
-    none-written (some t) h e w = absurd (true-false (sym (h .0) ∙ e))
+    none-written none {r = r} {xs = xs} {zs = zs} h e w q = subst (λ (n : ℕ). Written limit to (n ∷ []) xs r zs) q w
+    none-written (some t) h e w q = absurd (true-false (sym (h .0) ∙ e))
 
     pub some-written : (o : Option ResolvedType) {a r : ℕ} {xs ys zs : List ℕ} → MaybeHolds rows m o → m .some ≡ true → Written limit to (1 ∷ []) xs a ys
         → ((ws : List ℕ) → Runs (m .ty) ws → Written limit a ws ys r zs) → Written limit to (return-words o) xs r zs
