@@ -1,7 +1,7 @@
 // Returns: what a function gives back, and 22 and 23.
+use crate::value::project_value;
 use answers::answer::Outcome;
 use answers::refusal::Refusal;
-use crate::value::project_value;
 use held::types::MaybeType;
 use layout::Layout;
 use places::Context;
@@ -83,7 +83,20 @@ fn return_value(
     }
     let a = put(out, limit, to, RETURN);
     let b = put(out, limit, a, 1);
-    let r = project_value(image, l, ctx, names, words, lens, at, returns, 4, out, limit, b);
+    let r = project_value(
+        image,
+        l,
+        ctx,
+        names,
+        words,
+        lens,
+        at,
+        returns,
+        4,
+        out,
+        limit,
+        b,
+    );
     if !r.ok {
         return r;
     }

@@ -1,0 +1,2 @@
+// The projection of an implementation on a readable image.
+pub mod parts;
