@@ -25,3 +25,19 @@ pub fn read_to_end(fd: i32, bytes: &mut [u8]) -> Input
     }
     Input { ok: true, len: n }
 }
+
+// Reads a whole file; not ok where it cannot be opened or read, or fills the bytes and so may be longer.
+pub fn read_file(path: &[u8], bytes: &mut [u8]) -> Input
+    ensures { λ r. ⌜ Counts (r .len) (now (bytes .exit)) ⌝ }
+{
+    let fd = os::open_read(path);
+    if fd < 0 {
+        return Input { ok: false, len: 0 };
+    }
+    let r = read_to_end(fd, bytes);
+    libc::close(fd);
+    Input {
+        ok: r.ok && r.len < bytes.len(),
+        len: r.len,
+    }
+}
