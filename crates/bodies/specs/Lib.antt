@@ -5,3 +5,4 @@ pub mod Targets
 pub mod Wanted
 pub mod Values
 pub mod Returns
+pub mod Assigns

@@ -39,6 +39,9 @@ made-assign c target e = do
   value ← infer-expr c e (some t) 5
   ok (PortableStatement.assign-self-field f value)
 
+unfoldable pub assign-words : FunctionContext → Expr → Expr → Result (List ℕ)
+assign-words c target e = made-assign c target e >>= λ p. ok (statement-words p)
+
 -- a property of what a statement is made to that is no Return: a Return ends the statements
 abbrev pub Passing : FunctionContext → Statement → (Result Made → Type 0) → Type 0
 Passing c (Statement.expr e) P = P (err (in-function 15 (c .function)))
