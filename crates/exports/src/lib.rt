@@ -1,4 +1,7 @@
 // The C forms, for Rust or C to link.
+mod block;
+mod signatures_call;
+
 ghost use mathlib.Core.Path.{_≡_};
 ghost use Rattle.rules.specs.Options.{is-some};
 ghost use Rattle.rules.specs.Image.{readable};

@@ -1,0 +1,2 @@
+-- Laws of the block.
+pub mod Blocks
