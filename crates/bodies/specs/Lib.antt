@@ -6,3 +6,4 @@ pub mod Wanted
 pub mod Values
 pub mod Returns
 pub mod Assigns
+pub mod Lets

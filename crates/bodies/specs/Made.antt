@@ -32,6 +32,9 @@ made-let c x t e = do
   value ← infer-expr c e t 3
   ok (PortableStatement.let-local x (type-of value) value, with-local c x (type-of value))
 
+unfoldable pub let-words : ℕ → PortableExpr → List ℕ
+let-words x v = statement-words (PortableStatement.let-local x (type-of v) v)
+
 unfoldable pub made-assign : FunctionContext → Expr → Expr → Result PortableStatement
 made-assign c target e = do
   f ← assigned-field (c .function) (place target)

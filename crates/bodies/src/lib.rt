@@ -1,5 +1,6 @@
 // The typed statements of one function.
 pub mod assigns;
+pub mod lets;
 pub mod parts;
 pub mod returns;
 pub mod step;
