@@ -7,3 +7,4 @@ pub mod Values
 pub mod Returns
 pub mod Assigns
 pub mod Lets
+pub mod Passes

@@ -1,6 +1,7 @@
 // Assignments to a field of SelfRef.
 use answers::answer::Outcome;
 use answers::refusal::Refusal;
+use crate::step::ASSIGN;
 use crate::value::NESTING;
 use crate::value::project_value;
 use fields::after;
@@ -26,8 +27,6 @@ pub struct Assigned {
     pub ok: bool,
     pub field: NameId,
 }
-
-const ASSIGN: u32 = 3;
 
 const FIELD_ACCESS: u32 = 7;
 

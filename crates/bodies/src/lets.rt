@@ -1,6 +1,7 @@
 // Lets: a value under the type written or its own, and a local more.
 use answers::refusal::Refusal;
 use crate::parts::written_type;
+use crate::step::LET;
 use crate::step::Step;
 use crate::value::NESTING;
 use held::types::HeldType;
@@ -20,8 +21,6 @@ ghost use Rattle.places.specs.InContext.{AtContext};
 ghost use Rattle.values.specs.Writes.{WritesOf};
 ghost use Rattle.bodies.specs.Made.{let-words, made-let};
 ghost use Rattle.bodies.specs.Agree.{Steps};
-
-const LET: u32 = 1;
 
 // The words of a Let whose accepted value stands at `at`.
 fn write_let(
