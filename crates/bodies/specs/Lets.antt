@@ -77,27 +77,28 @@ module _ (image : List ℕ) (l : Layout) (names words lens : List ℕ) (y : Cont
   }
 
   module _ {limit to : ℕ} {old new : List ℕ} {s : Step} where
-    steps-same : {made : Result Made} {other : Result Made} → made ≡ other → Step-agrees image l names' words' lens' y limit to old new s other → Steps image l names' words' lens' y limit to old new s made
-    steps-same q h = record { is = subst (Step-agrees image l names' words' lens' y limit to old new s) (sym q) h }
+    steps-same : {made other : Result Made} → made ≡ other → Step-agrees image l names' words' lens' y limit to old new s 1 other → Steps image l names' words' lens' y limit to old new s 1 made
+    steps-same q h = record { is = subst (Step-agrees image l names' words' lens' y limit to old new s 1) (sym q) h }
 
     -- k is the row of the last local of that name, or none; z is the name as the code reads it
     module _ {x : ℕ} (z : ℕ) (q : z ≡ x) (t : Option ResolvedType) (e : Expr) (k : ℕ) (w : Last (l .names .rows) names words lens (y .count) z (c .locals) k) where
-      pub let-seen : k < y .count → s .done .ok ≡ false → refusal-of (s .done .refusal) ≡ with-name 18 (c .function) z → Steps image l names' words' lens' y limit to old new s (made-let c x t e)
+      pub let-seen : k < y .count → s .done .ok ≡ false → refusal-of (s .done .refusal) ≡ with-name 18 (c .function) z → Steps image l names' words' lens' y limit to old new s 1 (made-let c x t e)
       let-seen h f r = steps-same (same-let c t e _ z q ∙ let-twice c z t e (w .found h .2)) (f, r)
 
       module _ (r : Inferred) (h : Says (l .names .rows) (c .function) (infer-expr c e t 3) r) (m : y .count ≤ k) where
-        pub let-refused : (r .number ≡ 0 → ⊥) → {f : ℕ} → f ≡ c .function → (s .done .ok ≡ false) × (refusal-of (s .done .refusal) ≡ says.refusal-of f r) → Steps image l names' words' lens' y limit to old new s (made-let c x t e)
+        pub let-refused : (r .number ≡ 0 → ⊥) → {f : ℕ} → f ≡ c .function → (s .done .ok ≡ false) × (refusal-of (s .done .refusal) ≡ says.refusal-of f r) → Steps image l names' words' lens' y limit to old new s 1 (made-let c x t e)
         let-refused n f d = steps-same (same-let c t e _ z q ∙ let-err c z t e (w .missing m) (said-err _ _ _ r h n)) (d .0, d .1 ∙ ap (λ (k : ℕ). says.refusal-of k r) f)
 
         pub let-entered : r .number ≡ 0 → {d : ℕ} → ((v : PortableExpr) → infer-expr c e t 3 ≡ ok v → Runs (r .ty) (run (type-of v)) → Written limit to (let-words z v) old d new)
             → ((u : ResolvedType) → Holds (l .names .rows) (r .ty) u → Rows (l .names .rows) names' words' lens' (y .count + 1) 0 (c .locals ++ (record { name = z; ty = u } ∷ [])))
-            → s .done .ok ≡ true → s .done .length ≡ d → s .count ≡ y .count + 1 → Steps image l names' words' lens' y limit to old new s (made-let c x t e)
+            → s .done .ok ≡ true → s .done .length ≡ d → s .count ≡ y .count + 1 → Steps image l names' words' lens' y limit to old new s 1 (made-let c x t e)
         unfolding let-words
         let-entered n {d} g a f o p =
             let v = said-ok _ _ _ r h n in
             let u = type-of (v .value) in
             steps-same (same-let c t e _ z q ∙ let-ok c z t e (w .missing m) (v .is)) (
               f,
+              p,
               subst (λ (j : ℕ). Written limit to (let-words z (v .value)) old j new) (sym o) (g (v .value) (v .is) (held-runs (v .held))),
               subst (λ (j : ℕ). InContext image l names' words' lens' (counted y j) (with-local c z u)) (sym p) (entered z u (a u (v .held))),
             )

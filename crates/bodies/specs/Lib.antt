@@ -8,3 +8,4 @@ pub mod Returns
 pub mod Assigns
 pub mod Lets
 pub mod Passes
+pub mod Blocks

@@ -74,35 +74,35 @@ passing-words o c ss (Statement.assign t e) =
 
 -- an assignment leaves the table as it is
 pub steps-assign : (image : List ℕ) (l : Layout) (names words lens : List ℕ) (y : Context) (c : FunctionContext) → InContext image l names words lens y c → (t e : Expr) {limit to : ℕ} {old new : List ℕ} {s : Step}
-    → Comes-to (assign-words c t e) limit to old new (s .done) → s .count ≡ y .count → Steps image l names words lens y limit to old new s (made-assign c t e >>= λ p. ok (p, c))
+    → Comes-to (assign-words c t e) limit to old new (s .done) → s .count ≡ y .count → Steps image l names words lens y limit to old new s 0 (made-assign c t e >>= λ p. ok (p, c))
 unfolding assign-words _>>=_
 steps-assign image l names words lens y c i t e {limit} {to} {old} {new} {s} h q = record { is = go (made-assign c t e) (h .is) }
   where
-    go : (p : Result PortableStatement) → Words-agree (p >>= λ p. ok (statement-words p)) limit to old new (s .done) → Step-agrees image l names words lens y limit to old new s (p >>= λ p. ok (p, c))
+    go : (p : Result PortableStatement) → Words-agree (p >>= λ p. ok (statement-words p)) limit to old new (s .done) → Step-agrees image l names words lens y limit to old new s 0 (p >>= λ p. ok (p, c))
     go (err z) h = h
-    go (ok p) h = (h .0, h .1, subst (λ (k : ℕ). InContext image l names words lens (counted y k) c) (sym q) i)
+    go (ok p) h = (h .0, omega (arith, q), h .1, subst (λ (k : ℕ). InContext image l names words lens (counted y k) c) (sym q) i)
 
 -- by the code that stands there
-module _ (rows strings : ℕ) (ws : List ℕ) (at : ℕ) (c : FunctionContext) (P : Result Made → Type 0) (count : ℕ) where
+module _ (rows strings : ℕ) (ws : List ℕ) (at : ℕ) (c : FunctionContext) (P : ℕ → Result Made → Type 0) (count : ℕ) where
   abbrev Passed : Statement → Type 0
-  Passed s = (n : ℕ) → Statement-stands rows strings ws s at n → count + let-count s ≤ 64 → Passing c s P
+  Passed s = (n : ℕ) → Statement-stands rows strings ws s at n → count + let-count s ≤ 64 → Passing c s (P (let-count s))
 
-  pub by-let : getD ws at 0 ≡ 1 → ((x : ℕ) (t : Option ResolvedType) (e : Expr) (n : ℕ) → Statement-stands rows strings ws (Statement.let-local x t e) at n → count < 64 → P (made-let c x t e)) → (s : Statement) → Passed s
+  pub by-let : getD ws at 0 ≡ 1 → ((x : ℕ) (t : Option ResolvedType) (e : Expr) (n : ℕ) → Statement-stands rows strings ws (Statement.let-local x t e) at n → count < 64 → P 1 (made-let c x t e)) → (s : Statement) → Passed s
   unfolding stored-statement-words let-count
   by-let q h (Statement.expr e) n s l = absurd (omega (arith, head (s .words-at)))
   by-let q h (Statement.let-local x t e) n s l = h x t e n s (omega arith)
   by-let q h (Statement.return v) n s l = tt
   by-let q h (Statement.assign t e) n s l = absurd (omega (arith, head (s .words-at)))
 
-  pub by-assign : getD ws at 0 ≡ 3 → ((t e : Expr) (n : ℕ) → Statement-stands rows strings ws (Statement.assign t e) at n → P (made-assign c t e >>= λ p. ok (p, c))) → (s : Statement) → Passed s
-  unfolding stored-statement-words
+  pub by-assign : getD ws at 0 ≡ 3 → ((t e : Expr) (n : ℕ) → Statement-stands rows strings ws (Statement.assign t e) at n → P 0 (made-assign c t e >>= λ p. ok (p, c))) → (s : Statement) → Passed s
+  unfolding stored-statement-words let-count
   by-assign q h (Statement.expr e) n s l = absurd (omega (arith, head (s .words-at)))
   by-assign q h (Statement.let-local x t e) n s l = absurd (omega (arith, head (s .words-at)))
   by-assign q h (Statement.return v) n s l = tt
   by-assign q h (Statement.assign t e) n s l = h t e n s
 
-  pub by-other : (getD ws at 0 ≡ 1 → ⊥) → (getD ws at 0 ≡ 3 → ⊥) → P (err (in-function 15 (c .function))) → (s : Statement) → Passed s
-  unfolding stored-statement-words
+  pub by-other : (getD ws at 0 ≡ 1 → ⊥) → (getD ws at 0 ≡ 3 → ⊥) → P 0 (err (in-function 15 (c .function))) → (s : Statement) → Passed s
+  unfolding stored-statement-words let-count
   by-other a b h (Statement.expr e) n s l = h
   by-other a b h (Statement.let-local x t e) n s l = absurd (a (head (s .words-at)))
   by-other a b h (Statement.return v) n s l = tt

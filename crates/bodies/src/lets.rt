@@ -73,7 +73,7 @@ pub fn project_let(
     to: usize,
 ) -> Step
     requires { ⌜ Inside (now image) l × (limit ≤ length (now out)) × (64 ≤ length (now names)) × (4096 ≤ length (now words)) × (64 ≤ length (now lens)) ⌝ }
-    ensures { λ r. ⌜ AtContext (now (image .entry)) l (now (names .entry)) (now (words .entry)) (now (lens .entry)) ctx (λ c. (x : ℕ) (t : Option ResolvedType) (e : Expr) (n : ℕ) → Statement-stands (l .names .rows) (l .strings .rows) (pool-words (now (image .entry)) l) (Statement.let-local x t e) at n → ctx .count < 64 → Steps (now (image .entry)) l (now (names .exit)) (now (words .exit)) (now (lens .exit)) ctx limit to (now (out .entry)) (now (out .exit)) r (made-let c x t e)) ⌝ }
+    ensures { λ r. ⌜ AtContext (now (image .entry)) l (now (names .entry)) (now (words .entry)) (now (lens .entry)) ctx (λ c. (x : ℕ) (t : Option ResolvedType) (e : Expr) (n : ℕ) → Statement-stands (l .names .rows) (l .strings .rows) (pool-words (now (image .entry)) l) (Statement.let-local x t e) at n → ctx .count < 64 → Steps (now (image .entry)) l (now (names .exit)) (now (words .exit)) (now (lens .exit)) ctx limit to (now (out .entry)) (now (out .exit)) r 1 (made-let c x t e)) ⌝ }
 {
     let count = ctx.count;
     let function = ctx.function;

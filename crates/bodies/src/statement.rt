@@ -31,7 +31,7 @@ pub fn project_statement(
     to: usize,
 ) -> Step
     requires { ⌜ Inside (now image) l × (limit ≤ length (now out)) × (64 ≤ length (now names)) × (4096 ≤ length (now words)) × (64 ≤ length (now lens)) ⌝ }
-    ensures { λ r. ⌜ AtContext (now (image .entry)) l (now (names .entry)) (now (words .entry)) (now (lens .entry)) ctx (λ c. (s : Statement) (n : ℕ) → Statement-stands (l .names .rows) (l .strings .rows) (pool-words (now (image .entry)) l) s at n → ctx .count + let-count s ≤ 64 → Passing c s (Steps (now (image .entry)) l (now (names .exit)) (now (words .exit)) (now (lens .exit)) ctx limit to (now (out .entry)) (now (out .exit)) r)) ⌝ }
+    ensures { λ r. ⌜ AtContext (now (image .entry)) l (now (names .entry)) (now (words .entry)) (now (lens .entry)) ctx (λ c. (s : Statement) (n : ℕ) → Statement-stands (l .names .rows) (l .strings .rows) (pool-words (now (image .entry)) l) s at n → ctx .count + let-count s ≤ 64 → Passing c s (Steps (now (image .entry)) l (now (names .exit)) (now (words .exit)) (now (lens .exit)) ctx limit to (now (out .entry)) (now (out .exit)) r (let-count s))) ⌝ }
 {
     let pool = l.pool;
     let code = reading::section_word(image, pool, at);
