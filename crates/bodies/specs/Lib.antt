@@ -9,3 +9,4 @@ pub mod Assigns
 pub mod Lets
 pub mod Passes
 pub mod Blocks
+pub mod Whole
