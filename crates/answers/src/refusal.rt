@@ -1,12 +1,14 @@
 // A refusal: its number, its names, its detail words.
+use held::types::HeldType;
 use rules::ids::NameId;
 ghost use mathlib.Core.Path.{_≡_};
 ghost use mathlib.Core.List.{[], _∷_};
-ghost use Prim.Native.Nat.{_≤_};
+ghost use Prim.Native.Nat.{_+_, _<_, _≤_};
 ghost use lib.ListN.{length};
 ghost use Rattle.rules.specs.Words.{bytes-of, over-start};
 ghost use Rattle.rules.specs.Refusal.{refusal, in-function, with-name, with-detail};
-ghost use Rattle.answers.specs.Refusals.{detail-of, refusal-of};
+ghost use Rattle.held.specs.Runs.{held-run};
+ghost use Rattle.answers.specs.Refusals.{detail-of, refusal-of, adding};
 
 pub struct Refusal {
     pub number: u32,
@@ -58,6 +60,41 @@ impl Refusal {
             words,
             count: 3,
         }
+    }
+
+    // One detail word more.
+    pub fn word(self, w: u32) -> Refusal
+        ensures { λ r. ⌜ (length (detail-of self) < 131 → refusal-of r ≡ adding (refusal-of self) (w ∷ [])) ⌝ }
+    {
+        let n = self.count;
+        if 131 <= n {
+            return self;
+        }
+        let mut words = self.words;
+        words[n] = w;
+        let function = self.function;
+        let second = self.second;
+        Refusal {
+            number: self.number,
+            function,
+            second,
+            words,
+            count: n + 1,
+        }
+    }
+
+    // A type's run behind the detail words.
+    pub fn run(self, ty: HeldType) -> Refusal
+        ensures { λ r. ⌜ (length (held-run ty) ≤ 64) × (length (detail-of self) + length (held-run ty) ≤ 131 → refusal-of r ≡ adding (refusal-of self) (held-run ty)) ⌝ }
+    {
+        let n = ty.count();
+        let mut i = 0;
+        let mut r = self;
+        while i < n {
+            r = r.word(ty.word(i));
+            i += 1;
+        }
+        r
     }
 
     // How many detail words there are.

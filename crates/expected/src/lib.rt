@@ -21,11 +21,13 @@ pub fn expected_list(image: &[u8], l: Layout, at: usize, params: &[u32], out: &m
     let mut i = 0;
     while i < count {
         let f = signature::whole::resolve_signature(image, l, next, params, out, place);
-        if !f.ok {
+        let large = !f.ok;
+        let poisoned = f.poisoned;
+        if large {
             let name = NameId(reading::section_word(image, pool, next));
             return answers::answer::refused(Refusal::at(8, name));
         }
-        if f.poisoned {
+        if poisoned {
             let name = NameId(reading::section_word(image, pool, next));
             return answers::answer::refused(Refusal::at(7, name));
         }

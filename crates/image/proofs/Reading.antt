@@ -21,7 +21,7 @@ use Rattle.layout.specs.declared.Opened.{Opened}
 use Rattle.layout.specs.Rows.{Cut}
 use Rattle.layout.specs.Readers.{rows-of}
 use Rattle.layout.specs.Open.{Open}
-use Rattle.sections.specs.Laid.{value, Laid}
+use Rattle.sections.specs.Laid.{value, opened-told, Laid}
 use Rattle.rows.specs.Verdict.{verdict, NamesSay, StringsSay, DefinitionsSay}
 use Rattle.rows.proofs.Rows.{elsewhere}
 use Rattle.rows.proofs.Layouts.{Names, names-give, strings-give, Definitions, definitions-give, texts-rule}
@@ -76,19 +76,19 @@ none-some : {A : Type 0} {a : A} → none ≡ some a → ⊥
 none-some e = let z : _≡_ {A = ℕ} 0 1 = cc in omega arith
 
 -- an image whose trailer is bad, and one whose rows were read
-pub refused : {image : List ℕ} {r : Opened} → r .ok ≡ false → readable image ≡ none → Verdict image r
+pub refused : {image : List ℕ} {r : Opened} → r .layout ≡ opened-told image .layout → r .ok ≡ false → readable image ≡ none → Verdict image r
 unfolding is-some
-refused n e = record { ok = rw e n; cut = λ s h. absurd (none-some (sym e ∙ h)); opens = λ s h. absurd (none-some (sym e ∙ h)) }
+refused t n e = record { ok = rw e n; told = t; cut = λ s h. absurd (none-some (sym e ∙ h)); opens = λ s h. absurd (none-some (sym e ∙ h)) }
 
-pub settled : {image : List ℕ} {l : Layout} → Laid image l → {b : Bool} → Says (rows-of image l) [] 0 (verdict b 0) → Verdict image (record { ok = b; layout = l })
+pub settled : {image : List ℕ} {l : Layout} → l ≡ opened-told image .layout → Laid image l → {b : Bool} → Says (rows-of image l) [] 0 (verdict b 0) → Verdict image (record { ok = b; layout = l })
 unfolding is-some
-settled {image} {l} laid {b} says = go (rows-of image l (rest-at [] 0)) refl (says .is)
+settled {image} {l} told laid {b} says = go (rows-of image l (rest-at [] 0)) refl (says .is)
   where
     go : (o : Option (CompiledSchema × Rest)) → rows-of image l (rest-at [] 0) ≡ o → Agrees [] o (verdict b 0) → Verdict image (record { ok = b; layout = l })
-    go none e a = refused (ap (λ (c : Checked). c .ok) a) (laid .reads ∙ ap value e)
+    go none e a = refused told (ap (λ (c : Checked). c .ok) a) (laid .reads ∙ ap value e)
     go (some p) e a =
         let r : readable image ≡ some (p .0) = laid .reads ∙ ap value e in
-        record { ok = rw r (a .0); cut = λ s h. laid .cut; opens = λ s h. let same : p .0 ≡ s = cc in opened image l (laid .cut) s (p .1) (rw same at e) h }
+        record { ok = rw r (a .0); told = told; cut = λ s h. laid .cut; opens = λ s h. let same : p .0 ≡ s = cc in opened image l (laid .cut) s (p .1) (rw same at e) h }
 
 -- the schema of an image that is readable
 pub schema-of : {image : List ℕ} {r : Opened} → Verdict image r → r .ok ≡ true → (s : CompiledSchema) × Open image (r .layout) s

@@ -9,9 +9,11 @@ use Rattle.rules.specs.Image.{readable}
 use Rattle.layout.specs.declared.Opened.{Opened}
 use Rattle.layout.specs.Rows.{Cut}
 use Rattle.layout.specs.Open.{Open}
+use Rattle.sections.specs.Laid.{opened-told}
 
--- ok exactly where the rules read a schema, and then the layout cuts the image as 01 has it and that schema stands by it
+-- ok exactly where the rules read a schema, and then the layout cuts the image as 01 has it and that schema stands by it; the layout is the one that the trailer tells in either case
 pub record Verdict (image : List ℕ) (r : Opened) : Type 0 where
   pub ok : r .ok ≡ is-some (readable image)
+  pub told : r .layout ≡ opened-told image .layout
   pub cut : (s : CompiledSchema) → readable image ≡ some s → Cut image (r .layout)
   pub opens : (s : CompiledSchema) → readable image ≡ some s → Open image (r .layout) s

@@ -11,10 +11,12 @@ pub fn check_rows(image: &[u8], l: Layout) -> bool
     requires { ⌜ Cut (now image) l ⌝ }
     ensures { λ r. ⌜ Says (rows-of (now (image .entry)) l) [] 0 (verdict r 0) ⌝ }
 {
-    if !rows::names::check_names(image, l) {
+    let named = rows::names::check_names(image, l);
+    if !named {
         return false;
     }
-    if !texts::differ::texts_differ(image, l.texts, l.names.rows as usize) {
+    let differ = texts::differ::texts_differ(image, l.texts, l.names.rows as usize);
+    if !differ {
         return false;
     }
     if !rows::strings::check_strings(image, l) {

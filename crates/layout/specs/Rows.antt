@@ -53,5 +53,6 @@ pub record IsStringRow (image : List ℕ) (l : Layout) (i : ℕ) (r : StringRow)
 
 pub record IsDefinitionRow (image : List ℕ) (l : Layout) (d : ℕ) (r : DefinitionRow) : Type 0 where
   pub past : l .definitions .rows ≤ d → r .kind ≡ DefinitionKind.Unknown
+  pub nowhere : l .definitions .rows ≤ d → r .start ≡ 0
   pub kind : d < l .definitions .rows → r .kind ≡ definition-kind (row-word image (l .definitions) d 0)
   pub start : d < l .definitions .rows → r .start ≡ row-word image (l .definitions) d 1

@@ -2,12 +2,14 @@
 use held::types::HeldType;
 use held::types::MaybeType;
 use rules::ids::NameId;
-ghost use Prim.Native.Nat.{ℕ};
-ghost use mathlib.Core.List.{List};
+ghost use Prim.Native.Nat.{ℕ, _+_, _<_, _≤_};
+ghost use mathlib.Core.List.{List, [], _∷_, _++_};
+ghost use lib.ListN.{length};
 ghost use Rattle.rules.specs.Syntax.{ResolvedType, Param};
 ghost use Rattle.rules.specs.Infer.{find-last};
 ghost use Rattle.held.specs.Holds.{Holds, MaybeHolds};
 ghost use Rattle.locals.specs.Rows.{Row, Rows, Last};
+ghost use Rattle.locals.specs.Adds.{Filled};
 
 // The row of the last local of this name, or the count where there is none.
 pub fn find_local(names: &[u32], count: usize, x: NameId) -> usize
@@ -62,4 +64,35 @@ pub fn find_last(names: &[u32], words: &[u32], lens: &[u32], count: usize, x: Na
         return MaybeType::some(local_type(words, lens, i));
     }
     MaybeType::none()
+}
+
+// The words of row i; those of the rows before it stay.
+fn fill_row(words: &mut [u32], i: usize, ty: HeldType)
+    requires { ⌜ (i < 64) × (4096 ≤ length (now words)) ⌝ }
+    ensures { λ r. ⌜ Filled (now (words .entry)) (now (words .exit)) i ty ⌝ }
+{
+    let from = ty.words;
+    let mut k = 0;
+    while k < 64 {
+        words[64 * i + k] = from[k];
+        k += 1;
+    }
+}
+
+// A local as row i, behind those before it.
+pub fn add_local(
+    names: &mut [u32],
+    words: &mut [u32],
+    lens: &mut [u32],
+    i: usize,
+    name: NameId,
+    ty: HeldType,
+)
+    requires { ⌜ (i < 64) × (64 ≤ length (now names)) × (4096 ≤ length (now words)) × (64 ≤ length (now lens)) ⌝ }
+    ensures { λ r. ⌜ ((rows : ℕ) (ps : List (Param ResolvedType)) (t : ResolvedType) → Rows rows (now (names .entry)) (now (words .entry)) (now (lens .entry)) i 0 ps → Holds rows ty t → Rows rows (now (names .exit)) (now (words .exit)) (now (lens .exit)) (i + 1) 0 (ps ++ (record { name = name .0; ty = t } ∷ []))) ⌝ }
+{
+    let n = ty.count();
+    names[i] = name.0;
+    lens[i] = n as u32;
+    fill_row(words, i, ty);
 }

@@ -19,9 +19,9 @@ use Rattle.layout.specs.declared.Layout.{Layout}
 use Rattle.layout.specs.declared.Opened.{Opened}
 use Rattle.layout.specs.Readers.{rows-of}
 use Rattle.sections.specs.declared.Trailer.{Trailer}
-use Rattle.sections.specs.Trailers.{meant, IsTrailer, Tells}
-use Rattle.sections.specs.Laid.{value, Laid, Read}
-use Rattle.sections.proofs.Trailers.{bounds, parts}
+use Rattle.sections.specs.Trailers.{meant, IsTrailer, trailer-told, layout-told}
+use Rattle.sections.specs.Laid.{value, no-layout, layout-if, opened-told, Laid, Read}
+use Rattle.sections.proofs.Trailers.{bounds, parts, Tells, tells}
 
 -- a trailer by its six words
 abbrev told : List ℕ → rules.Trailer
@@ -58,7 +58,7 @@ module _ {A : Type 0} where
 
 module _ (image : List ℕ) where
   -- too short or too long
-  pub unsized : within 24 65536 (length image) ≡ false → readable image ≡ none
+  unsized : within 24 65536 (length image) ≡ false → readable image ≡ none
   unfolding readable schema _>>=_
   unsized e = ap value (broken _ _ e)
 
@@ -79,7 +79,7 @@ module _ (image : List ℕ) where
     unfolding readable schema _>>=_
     opened = ap value (passed _ _ sized ∙ taken _ _ _ _ read)
 
-    pub bad : good-trailer (length image) (meant t) ≡ false → readable image ≡ none
+    bad : good-trailer (length image) (meant t) ≡ false → readable image ≡ none
     bad e = opened ∙ ap value (broken _ _ e)
 
     module _ {l : Layout} (good : good-trailer (length image) (meant t) ≡ true) (tells : Tells (length image) (meant t) l) where
@@ -94,7 +94,7 @@ module _ (image : List ℕ) where
           ) in
           opened ∙ ap value (passed _ _ good ∙ same)
 
-      pub laid : Laid image l
+      laid : Laid image l
       laid =
           let b = bounds (length image) sized in
           let p = parts (length image) (meant t) good in
@@ -118,8 +118,27 @@ module _ (image : List ℕ) where
           }
 
 -- the answer, by which of the two it is
-pub refusal : {image : List ℕ} {r : Opened} → r .ok ≡ false → readable image ≡ none → Read image r
-refusal n e = record { laid = λ y. absurd (true-false (sym y ∙ n)); refused = λ _. e }
+refusal : {image : List ℕ} {r : Opened} → r ≡ opened-told image → r .ok ≡ false → readable image ≡ none → Read image r
+refusal q n e = record { told = q; laid = λ y. absurd (true-false (sym y ∙ n)); refused = λ _. e }
 
-pub accepted : {image : List ℕ} {r : Opened} → r .ok ≡ true → Laid image (r .layout) → Read image r
-accepted y l = record { laid = λ _. l; refused = λ n. absurd (true-false (sym y ∙ n)) }
+accepted : {image : List ℕ} {r : Opened} → r ≡ opened-told image → r .ok ≡ true → Laid image (r .layout) → Read image r
+accepted q y l = record { told = q; laid = λ _. l; refused = λ n. absurd (true-false (sym y ∙ n)) }
+
+is-told : (image : List ℕ) (t : Trailer) → IsTrailer image t → meant t ≡ trailer-told image
+is-told image t is = cc
+
+module _ (image : List ℕ) where
+  pub unsized-read : within 24 65536 (length image) ≡ false → {r : Opened} → r ≡ no-layout → Read image r
+  unfolding opened-told layout-if
+  unsized-read e q = refusal (rw e q) (ap (λ (o : Opened). o .ok) q) (unsized image e)
+
+  module _ (t : Trailer) (is : IsTrailer image t) (sized : within 24 65536 (length image) ≡ true) where
+    pub bad-read : good-trailer (length image) (meant t) ≡ false → {r : Opened} → r ≡ no-layout → Read image r
+    unfolding opened-told layout-if
+    bad-read e q = refusal (rw (sized, ← is-told image t is, e) q) (ap (λ (o : Opened). o .ok) q) (bad image t is sized e)
+
+    pub good-read : good-trailer (length image) (meant t) ≡ true → {l : Layout} → l ≡ layout-told (length image) (meant t) → Read image (record { ok = true; layout = l })
+    unfolding opened-told layout-if
+    good-read e {l} q =
+        accepted (rw (sized, ← is-told image t is, e) (ap (λ (x : Layout). record { ok = true; layout = x }) (q ∙ ap (layout-told (length image)) (is-told image t is)))) refl
+        (laid image t is sized e (rw q (tells (length image) (meant t) e)))

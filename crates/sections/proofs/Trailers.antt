@@ -9,7 +9,9 @@ use borrow.Author.Tests.{leb-true, eqb-true}
 use Rattle.rules.specs.Words.{within}
 use Rattle.rules.specs.Image as rules
 use Rattle.rules.specs.Image.{whole-rows, good-trailer}
-use Rattle.sections.specs.Trailers.{Whole}
+use Rattle.layout.specs.declared.Table.{Table}
+use Rattle.layout.specs.declared.Layout.{Layout}
+use Rattle.sections.specs.Trailers.{Whole, table-told, layout-told}
 
 both : (a b : Bool) → (a && b) ≡ true → (a ≡ true) × (b ≡ true)
 both true b e = (refl, e)
@@ -54,6 +56,37 @@ fewer {a} {b} {w} {m} {n} l h = record { order = h .order; exact = h .exact; few
 -- the rows' words are the bytes
 pub rows-words : (w : ℕ) {a b most : ℕ} → Whole a b (4 * w) most → a + 4 * (w * ((b - a) / (4 * w))) ≡ b
 rows-words w {a} {b} h = let e = div-add-mod (b - a) (4 * w) in omega (arith, e, h .exact, h .order, mul-assoc 4 w ((b - a) / (4 * w)))
+
+-- a table of rows of w words from a to b
+pub record Tabled (a b w : ℕ) (t : Table) : Type 0 where
+  pub start : t .words .start ≡ a
+  pub stop : a + 4 * t .words .len ≡ b
+  pub whole : t .words .len ≡ t .width * t .rows
+  pub rows : t .rows ≡ (b - a) / (4 * w)
+  pub width : t .width ≡ w
+
+-- the layout of the trailer of an image of `size` bytes
+pub record Tells (size : ℕ) (t : rules.Trailer) (l : Layout) : Type 0 where
+  pub texts : l .texts ≡ t .names-start
+  pub names : Tabled (t .names-start) (t .strings-start) 4 (l .names)
+  pub strings : Tabled (t .strings-start) (t .pool-start) 2 (l .strings)
+  pub pool-start : l .pool .start ≡ t .pool-start
+  pub pool-stop : t .pool-start + 4 * l .pool .len ≡ t .definitions-start
+  pub definitions : Tabled (t .definitions-start) (size - 24) 2 (l .definitions)
+
+tabled : (w : ℕ) {a b most : ℕ} → Whole a b (4 * w) most → Tabled a b w (table-told a b w)
+tabled w h = record { start = refl; stop = rows-words w h; whole = refl; rows = refl; width = refl }
+
+pub tells : (size : ℕ) (t : rules.Trailer) → good-trailer size t ≡ true → Tells size t (layout-told size t)
+tells size t e =
+    let p = parts size t e in
+    record { texts = refl; names = tabled 4 (p .names); strings = tabled 2 (p .strings); pool-start = refl; pool-stop = rows-words 1 (p .pool); definitions = tabled 2 (p .definitions) }
+
+-- the layout of the four tables
+pub joined : (size : ℕ) (t : rules.Trailer) {n s p d : Table} → n ≡ table-told (t .names-start) (t .strings-start) 4 → s ≡ table-told (t .strings-start) (t .pool-start) 2
+    → p ≡ table-told (t .pool-start) (t .definitions-start) 1 → d ≡ table-told (t .definitions-start) (size - 24) 2
+    → _≡_ {A = Layout} (record { texts = t .names-start; names = n; strings = s; pool = p .words; definitions = d }) (layout-told size t)
+joined size t a b c e = rw (a, b, c, e)
 
 -- and are few
 pub rows-few : {w n : ℕ} → w ≤ 4 → n ≤ 65536 → w * n ≤ 262144

@@ -25,25 +25,26 @@ pub record IsTrailer (image : List ℕ) (t : Trailer) : Type 0 where
   pub format : t .format ≡ trailer-word image 4
   pub size : t .size ≡ trailer-word image 5
 
+-- the trailer that an image's last words tell
+abbrev pub trailer-told : List ℕ → rules.Trailer
+trailer-told image = record { names-start = trailer-word image 0; strings-start = trailer-word image 1; pool-start = trailer-word image 2; definitions-start = trailer-word image 3; format = trailer-word image 4; size = trailer-word image 5 }
+
 -- whole rows of w bytes from a to b, at most `most`
 pub record Whole (a b w most : ℕ) : Type 0 where
   pub order : a ≤ b
   pub exact : (b - a) % w ≡ 0
   pub few : (b - a) / w ≤ most
 
--- a table of rows of w words from a to b
-pub record Tabled (a b w : ℕ) (t : Table) : Type 0 where
-  pub start : t .words .start ≡ a
-  pub stop : a + 4 * t .words .len ≡ b
-  pub whole : t .words .len ≡ t .width * t .rows
-  pub rows : t .rows ≡ (b - a) / (4 * w)
-  pub width : t .width ≡ w
+-- the table of rows of w words from a to b
+abbrev pub table-told : ℕ → ℕ → ℕ → Table
+table-told a b w = record { words = record { start = a; len = w * ((b - a) / (4 * w)) }; rows = (b - a) / (4 * w); width = w }
 
 -- the layout that the trailer of an image of `size` bytes tells
-pub record Tells (size : ℕ) (t : rules.Trailer) (l : Layout) : Type 0 where
-  pub texts : l .texts ≡ t .names-start
-  pub names : Tabled (t .names-start) (t .strings-start) 4 (l .names)
-  pub strings : Tabled (t .strings-start) (t .pool-start) 2 (l .strings)
-  pub pool-start : l .pool .start ≡ t .pool-start
-  pub pool-stop : t .pool-start + 4 * l .pool .len ≡ t .definitions-start
-  pub definitions : Tabled (t .definitions-start) (size - 24) 2 (l .definitions)
+abbrev pub layout-told : ℕ → rules.Trailer → Layout
+layout-told size t = record {
+  texts = t .names-start;
+  names = table-told (t .names-start) (t .strings-start) 4;
+  strings = table-told (t .strings-start) (t .pool-start) 2;
+  pool = table-told (t .pool-start) (t .definitions-start) 1 .words;
+  definitions = table-told (t .definitions-start) (size - 24) 2;
+}

@@ -8,7 +8,7 @@ ghost use mathlib.Core.Bool.{true, false};
 ghost use Prim.Native.Nat.{_*_, _≤_};
 ghost use lib.ListN.{length};
 ghost use Rattle.rules.specs.Image.{whole-rows, good-trailer};
-ghost use Rattle.sections.specs.Trailers.{meant, IsTrailer, Whole, Tabled, Tells};
+ghost use Rattle.sections.specs.Trailers.{meant, IsTrailer, Whole, table-told, layout-told};
 ghost use Rattle.sections.specs.Laid.{no-layout, Read};
 
 // Words of a row. What a definition row of format 1 has stands here; the layout hands it on.
@@ -71,7 +71,7 @@ fn good_trailer(t: Trailer, size: usize) -> bool
 // The rows from start to stop.
 fn table(start: usize, stop: usize, width: usize) -> Table
     requires { ⌜ (1 ≤ width) × (width ≤ 4) × Whole start stop (4 * width) 65536 ⌝ }
-    ensures { λ r. ⌜ Tabled start stop width r ⌝ }
+    ensures { λ r. ⌜ r ≡ table-told start stop width ⌝ }
 {
     let rows = (stop - start) / (4 * width);
     Table {
@@ -87,7 +87,7 @@ fn table(start: usize, stop: usize, width: usize) -> Table
 // The layout that a good trailer tells.
 fn layout_of(t: Trailer, size: usize) -> Layout
     requires { ⌜ (24 ≤ size) × (good-trailer size (meant t) ≡ true) ⌝ }
-    ensures { λ r. ⌜ Tells size (meant t) r ⌝ }
+    ensures { λ r. ⌜ r ≡ layout-told size (meant t) ⌝ }
 {
     let names = table(t.names, t.strings, NAME_WORDS);
     let strings = table(t.strings, t.pool, STRING_WORDS);

@@ -1,10 +1,11 @@
 -- A number made of a list: lists with different numbers differ.
-use mathlib.Core.Path.{_≡_, ap, _∙_}
+use mathlib.Core.Path.{_≡_, refl, ap, _∙_}
 use mathlib.Core.Bool.{false}
 use mathlib.Core.List.{List, [], _∷_}
-use Prim.Native.Nat.{ℕ, _+_, _*_, _%_, _<_, _≤_}
-use lib.ListN.{length, getD, set, drop, drop-of-length-le}
+use Prim.Native.Nat.{ℕ, zero, suc, _+_, _*_, _%_, _<_, _≤_}
+use lib.ListN.{length, getD, set, drop, drop-of-length-le, replicate}
 use lib.Seq.{drop-cons, getD-set-same, getD-set-other}
+use native.Mathlib.Omega.{arith}
 use native.Mathlib.Nat.{lt-irrefl}
 use native.Mathlib.Numerals.{add-one}
 use borrow.Author.Count.{below-more}
@@ -42,3 +43,15 @@ hashes-more image names-start i hs h k e below =
     below-more (λ (j : ℕ). getD (set hs i h) j 0 ≡ hash-of (row-text image names-start j)) i
     (λ j m. getD-set-other hs i j h 0 (λ q. lt-irrefl i (rw q at m)) ∙ below j m)
     (getD-set-same hs i h 0 k ∙ e)
+
+-- no number from n on
+abbrev pub Blank : ℕ → List ℕ → Type 0
+Blank n hs = (i : ℕ) → n ≤ i → getD hs i 0 ≡ 0
+
+pub blank-more : (i : ℕ) (hs : List ℕ) (h : ℕ) → Blank i hs → Blank (i + 1) (set hs i h)
+blank-more i hs h b j l = getD-set-other hs i j h 0 (omega arith) ∙ b j (omega arith)
+
+pub blank-all : (m : ℕ) → Blank 0 (replicate m 0)
+blank-all zero i l = refl
+blank-all (suc m) zero l = refl
+blank-all (suc m) (suc i) l = blank-all m i (omega arith)

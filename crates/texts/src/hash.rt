@@ -4,7 +4,7 @@ use rules::ids::NameId;
 ghost use mathlib.Core.Path.{_≡_};
 ghost use Prim.Native.Nat.{_≤_, _<_};
 ghost use lib.ListN.{length};
-ghost use Rattle.texts.specs.Hash.{hash-of, Hashes};
+ghost use Rattle.texts.specs.Hash.{hash-of, Hashes, Blank};
 
 fn wide(b: u8) -> u32
     ensures { λ r. ⌜ (r ≡ b) × (r < 256) ⌝ }
@@ -24,10 +24,10 @@ pub fn hash(s: &[u8]) -> u32
     h
 }
 
-// The numbers of all texts, in the order of their rows.
+// The numbers of all texts, in the order of their rows, and 0 behind them.
 pub fn hashes(image: &[u8], names_start: usize, names: usize) -> [u32; 1024]
     requires { ⌜ («names_start» ≤ 65536) × (names ≤ 1024) ⌝ }
-    ensures { λ r. ⌜ (1024 ≡ length r) × Hashes (now (image .entry)) «names_start» names r ⌝ }
+    ensures { λ r. ⌜ (1024 ≡ length r) × Hashes (now (image .entry)) «names_start» names r × Blank names r ⌝ }
 {
     let mut hs = [0u32; 1024];
     let mut i = 0;

@@ -23,11 +23,11 @@ use Rattle.traits.specs.declared.find.Found.{Found}
 use Rattle.traits.specs.Found.{is-impl-kind, is-trait-kind, Agrees, Finds, Impl-here, Trait-here}
 
 module _ {image : List ℕ} {l : Layout} {s : CompiledSchema} (o : Open image l s) (d : ℕ) (r : DefinitionRow) (row : IsDefinitionRow image l d r) where
-  abbrev Alike : TypeDef → Type 0
+  abbrev pub Alike : TypeDef → Type 0
   Alike t = DefinitionStands (l .names .rows) (l .strings .rows) (pool-words image l) (r .kind) (r .start) t
 
   -- by the definition that stands there, if one does
-  by-row : {A : Type 0} (Q : A → ℕ → ℕ → Type 0) (is : TypeDef → Option A) (f : Found) → ((t : TypeDef) → Alike t → Agrees Q (is t) f) → (r .kind ≡ DefinitionKind.Unknown → f .ok ≡ false)
+  pub by-row : {A : Type 0} (Q : A → ℕ → ℕ → Type 0) (is : TypeDef → Option A) (f : Found) → ((t : TypeDef) → Alike t → Agrees Q (is t) f) → (r .kind ≡ DefinitionKind.Unknown → f .ok ≡ false)
       → Finds Q (then (get s d) is) f
   unfolding then
   by-row {A} Q is f each none-is = go (decLe (l .definitions .rows) d)

@@ -7,11 +7,12 @@ use Rattle.layout.proofs.definition_row.Statement.{statement}
 use Rattle.layout.proofs.definition_row.Tie as tie
 
 returns : tie.Need-returns
-returns c = record { past = λ _. refl; kind = λ l. absurd (omega (arith, l, c .if1 .taken)); start = λ l. absurd (omega (arith, l, c .if1 .taken)) }
+returns c = record { past = λ _. refl; nowhere = λ _. refl; kind = λ l. absurd (omega (arith, l, c .if1 .taken)); start = λ l. absurd (omega (arith, l, c .if1 .taken)) }
 
 returns-2 : tie.Need-returns-2
 returns-2 c = record {
   past = λ l. absurd (omega (arith, l, c .before .before .before .if1 .left));
+  nowhere = λ l. absurd (omega (arith, l, c .before .before .before .if1 .left));
   kind = λ l. c .before .definition-kind .ensures ∙ ap definition-kind (c .before .before .word-of-row .ensures);
   start = λ l. c .word-of-row2 .ensures;
 }

@@ -1,7 +1,8 @@
 -- `sections::layout_of` meets its contract. Assumes nothing.
 use native.Mathlib.Omega.{arith}
-use Rattle.sections.proofs.Trailers.{parts, fewer}
+use Rattle.sections.proofs.Trailers.{parts, fewer, joined}
 use borrow.Author.Needs.{needs}
+use Rattle.sections.specs.Trailers.{meant}
 use Rattle.sections.proofs.layout_of.Statement.{statement}
 use Rattle.sections.proofs.layout_of.Tie as tie
 
@@ -21,7 +22,8 @@ table-requires-4 : tie.Need-table-requires-4
 table-requires-4 c κs = (omega arith, omega arith, fewer (omega arith) (parts _ _ (c .before .before .before .pre .1) .definitions))
 
 returns : tie.Need-returns
-returns c = search needs
+returns c =
+    joined _ (meant (c .before .before .before .before .before .args .t)) (c .before .before .before .before .table .ensures) (c .before .before .before .table2 .ensures) (c .before .before .table3 .ensures) (c .before .table4 .ensures)
 
 pub layout-of-spec : {M : Type 1} → statement M
 layout-of-spec =

@@ -1,9 +1,8 @@
 -- `sections::read_layout` meets its contract. Assumes nothing.
-use mathlib.Core.Path.{refl, sym, ap, _∙_}
-use Rattle.layout.specs.declared.Opened.{Opened}
+use mathlib.Core.Path.{sym, _∙_}
 use borrow.Author.Tests.{not-true, not-false}
 use Rattle.sections.proofs.Trailers.{bounds}
-use Rattle.sections.proofs.Schemas.{unsized, bad, laid, refusal, accepted}
+use Rattle.sections.proofs.Schemas.{unsized-read, bad-read, good-read}
 use borrow.Author.Needs.{needs}
 use Rattle.sections.proofs.read_layout.Statement.{statement}
 use Rattle.sections.proofs.read_layout.Tie as tie
@@ -12,7 +11,7 @@ refused-requires : tie.Need-refused-requires
 refused-requires c κs = search needs
 
 returns : tie.Need-returns
-returns c = refusal (ap (λ (o : Opened). o .ok) (c .refused .ensures)) (unsized _ (not-true _ (c .before .if1 .taken)))
+returns c = unsized-read _ (not-true _ (c .before .if1 .taken)) (c .refused .ensures)
 
 read-trailer-requires : tie.Need-read-trailer-requires
 read-trailer-requires c κs = bounds _ (not-false _ (c .if1 .left)) .0
@@ -24,13 +23,13 @@ refused-requires-2 : tie.Need-refused-requires-2
 refused-requires-2 c κs = search needs
 
 returns-2 : tie.Need-returns-2
-returns-2 c = refusal (ap (λ (o : Opened). o .ok) (c .refused2 .ensures)) (bad _ _ (c .before .before .before .read-trailer .ensures) (not-false _ (c .before .before .before .before .if1 .left)) (sym (c .before .before .good-trailer .ensures) ∙ not-true _ (c .before .if2 .taken)))
+returns-2 c = bad-read _ _ (c .before .before .before .read-trailer .ensures) (not-false _ (c .before .before .before .before .if1 .left)) (sym (c .before .before .good-trailer .ensures) ∙ not-true _ (c .before .if2 .taken)) (c .refused2 .ensures)
 
 layout-of-requires : tie.Need-layout-of-requires
 layout-of-requires c κs = (bounds _ (not-false _ (c .before .before .before .if1 .left)) .0, sym (c .before .good-trailer .ensures) ∙ not-false _ (c .if2 .left))
 
 returns-3 : tie.Need-returns-3
-returns-3 c = accepted refl (laid _ _ (c .before .before .before .read-trailer .ensures) (not-false _ (c .before .before .before .before .if1 .left)) (sym (c .before .before .good-trailer .ensures) ∙ not-false _ (c .before .if2 .left)) (c .layout-of .ensures))
+returns-3 c = good-read _ _ (c .before .before .before .read-trailer .ensures) (not-false _ (c .before .before .before .before .if1 .left)) (sym (c .before .before .good-trailer .ensures) ∙ not-false _ (c .before .if2 .left)) (c .layout-of .ensures)
 
 pub read-layout-spec : {M : Type 1} → statement M
 read-layout-spec =

@@ -1,7 +1,7 @@
 -- `sections::table` meets its contract. Assumes nothing.
 use mathlib.Core.Path.{refl}
 use native.Mathlib.Omega.{arith}
-use Rattle.sections.proofs.Trailers.{rows-words, rows-few}
+use Rattle.sections.proofs.Trailers.{rows-few}
 use borrow.Author.Needs.{needs}
 use Rattle.sections.proofs.table.Statement.{statement}
 use Rattle.sections.proofs.table.Tie as tie
@@ -22,7 +22,7 @@ cast-t8 : tie.Need-cast-t8
 cast-t8 c = search needs
 
 returns : tie.Need-returns
-returns c = record { start = refl; stop = rows-words (c .args .width) (c .pre .2); whole = refl; rows = refl; width = refl }
+returns c = refl
 
 pub table-spec : {M : Type 1} → statement M
 table-spec = tie.close (tie.spec sub-rows mul-rows div-rows mul-t5 cast-t8 returns)

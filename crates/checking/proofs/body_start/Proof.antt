@@ -1,0 +1,13 @@
+-- `checking::body_start` meets its contract. Assumes nothing.
+use borrow.Author.Needs.{needs}
+use Rattle.checking.specs.Ends.{return-behind}
+use Rattle.checking.proofs.body_start.Statement.{statement}
+use Rattle.checking.proofs.body_start.Tie as tie
+
+pub body-start-spec : {M : Type 1} → statement M
+body-start-spec =
+    tie.close
+    (tie.spec
+    (λ c κs. search needs)
+    (λ c κs. search needs)
+    (λ c. λ f n h. return-behind _ _ (f .return-type) _ _ (h .parts .return-at) (c .before .return-start .ensures f n h) _ (c .check-maybe-type .ensures)))

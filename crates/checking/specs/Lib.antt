@@ -1,0 +1,5 @@
+pub mod Ends
+pub mod Details
+pub mod Passing
+pub mod Params
+pub mod Whole

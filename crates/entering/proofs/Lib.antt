@@ -1,0 +1,6 @@
+-- Laws of a signature held in the table.
+pub mod Puts
+pub mod PutParts
+pub mod Resolves
+pub mod Enters
+pub mod Returns

@@ -1,0 +1,6 @@
+-- Laws of walks along functions.
+pub mod Walk
+pub mod FindByName
+pub mod TargetRows
+pub mod Members
+pub mod NameTests

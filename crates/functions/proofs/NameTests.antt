@@ -1,0 +1,76 @@
+-- The loops over functions' names. Assumes nothing.
+use Prim.Native.Nat.{ℕ, _+_, _<_, _≤_}
+use mathlib.Core.Path.{_≡_, refl, sym, ap, subst, _∙_}
+use mathlib.Core.Bool.{true, false}
+use mathlib.Core.List.{List, [], _∷_, _++_, map, append-nil}
+use lib.ListN.{length, take, set}
+use lib.Seq.{append-snoc}
+use Rattle.rules.specs.Words.{member}
+use Rattle.rules.specs.Syntax.{ImplFnDef, TraitFnDef}
+use Rattle.rules.specs.Refusal.{Result, in-function}
+use Rattle.rules.specs.Project.{no-repeat, no-stranger}
+use Rattle.layout.specs.declared.Layout.{Layout}
+use Rattle.pool_definitions.specs.Different.{names-of, take-more}
+use Rattle.answers.specs.declared.answer.Outcome.{Outcome}
+use Rattle.answers.specs.Refusals.{refusal-of}
+use Rattle.outcomes.specs.Outcomes.{Passes-agrees, Passes}
+use Rattle.functions.specs.Functions.{Function-here, Asked-here}
+use Rattle.functions.proofs.Walk as walk
+use Rattle.functions.proofs.Members.{repeat-seen, repeat-new, stranger-known, stranger-found}
+
+passed : {test last : Result (Unit {0})} {r : Outcome} → last ≡ test → Passes-agrees last r → Passes test r
+passed {r = r} e a = record { is = subst (λ (t : Result (Unit {0})). Passes-agrees t r) e a }
+
+module _ (image : List ℕ) (l : Layout) where
+  -- the names of trait functions, those that are left behind those in the table
+  abbrev pub Names : List TraitFnDef → List ℕ → ℕ → ℕ → ℕ → ℕ → Type 0
+  Names ts table n count i next = walk.Left (Asked-here image l) (λ rest. take i table ++ names-of rest ≡ names-of ts) n count i next
+
+  module _ (ts : List TraitFnDef) (table : List ℕ) {n count i next : ℕ} (w : Names ts table n count i next) where
+    pub named : i < count → i < length table → {x : ℕ} → ((f : TraitFnDef) (m : ℕ) → Asked-here image l f next m → x ≡ f .name) → {k : ℕ} → ((f : TraitFnDef) (m : ℕ) → Asked-here image l f next m → k ≡ m)
+        → Names ts (set table i x) n count (i + 1) k
+    named b inside {x} name behind = walk.turned _ _ w b (λ f fs m q s r c. walk.left _ _ fs r c (behind f m q)
+        (ap (λ (xs : List ℕ). xs ++ names-of fs) (take-more table i x inside) ∙ append-snoc (take i table) x (names-of fs)
+        ∙ ap (λ (y : ℕ). take i table ++ (y ∷ names-of fs)) (name f m q) ∙ s))
+
+    pub all-named : count ≤ i → count ≡ length ts → take (length ts) table ≡ names-of ts
+    all-named b c = let e = walk.ended _ _ w b in ap (λ (k : ℕ). take k table) (sym (e .0 ∙ c)) ∙ sym (append-nil (take i table)) ∙ e .1
+
+  -- a test of an implementation's functions by their names, under those in some list
+  module _ (test : List ℕ → List ImplFnDef → Result (Unit {0})) (whole : Result (Unit {0})) where
+    abbrev pub Tested : List ℕ → ℕ → ℕ → ℕ → ℕ → Type 0
+    Tested xs = walk.Left (Function-here image l) (λ rest. test xs rest ≡ whole)
+
+  abbrev pub Name-at : ℕ → ℕ → Type 0
+  Name-at next x = (f : ImplFnDef) (m : ℕ) → Function-here image l f next m → x ≡ f .name
+
+  abbrev pub Behind : ℕ → ℕ → Type 0
+  Behind next k = (f : ImplFnDef) (m : ℕ) → Function-here image l f next m → k ≡ m
+
+  module _ (whole : Result (Unit {0})) {n count i next : ℕ} where
+    module _ (xs : List ℕ) (w : Tested no-repeat whole xs n count i next) where
+      module _ (b : i < count) {x : ℕ} (name : Name-at next x) where
+        pub seen-before : member x xs ≡ true → {r : Outcome} → r .ok ≡ false → refusal-of (r .refusal) ≡ in-function 9 x → Passes whole r
+        seen-before y {r} z e = walk.turned _ _ w b (λ f fs m q s _ c.
+            passed (sym (repeat-seen xs f fs (ap (λ (k : ℕ). member k xs) (sym (name f m q)) ∙ y)) ∙ s) (z, e ∙ ap (in-function 9) (name f m q)))
+
+        pub not-seen : member x xs ≡ false → {ys : List ℕ} → ys ≡ xs ++ (x ∷ []) → {k : ℕ} → Behind next k → Tested no-repeat whole ys n count (i + 1) k
+        not-seen y {ys} e behind = walk.turned _ _ w b (λ f fs m q s r c. walk.left _ _ fs r c (behind f m q)
+            (ap (λ (zs : List ℕ). no-repeat zs fs) (e ∙ ap (λ (k : ℕ). xs ++ (k ∷ [])) (name f m q)) ∙ sym (repeat-new xs f fs (ap (λ (k : ℕ). member k xs) (sym (name f m q)) ∙ y)) ∙ s))
+
+      pub none-seen : count ≤ i → {r : Outcome} → r .ok ≡ true → Passes whole r
+      unfolding no-repeat
+      none-seen b y = passed (walk.ended _ _ w b .1) y
+
+    module _ (xs : List ℕ) (w : Tested no-stranger whole xs n count i next) where
+      module _ (b : i < count) {x : ℕ} (name : Name-at next x) where
+        pub not-known : member x xs ≡ false → {r : Outcome} → r .ok ≡ false → refusal-of (r .refusal) ≡ in-function 10 x → Passes whole r
+        not-known y {r} z e = walk.turned _ _ w b (λ f fs m q s _ c.
+            passed (sym (stranger-found xs f fs (ap (λ (k : ℕ). member k xs) (sym (name f m q)) ∙ y)) ∙ s) (z, e ∙ ap (in-function 10) (name f m q)))
+
+        pub known : member x xs ≡ true → {k : ℕ} → Behind next k → Tested no-stranger whole xs n count (i + 1) k
+        known y behind = walk.turned _ _ w b (λ f fs m q s r c. walk.left _ _ fs r c (behind f m q) (sym (stranger-known xs f fs (ap (λ (k : ℕ). member k xs) (sym (name f m q)) ∙ y)) ∙ s))
+
+      pub all-known : count ≤ i → {r : Outcome} → r .ok ≡ true → Passes whole r
+      unfolding no-stranger
+      all-known b y = passed (walk.ended _ _ w b .1) y
