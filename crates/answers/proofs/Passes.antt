@@ -11,7 +11,8 @@ use Rattle.answers.specs.declared.answer.Outcome.{Outcome}
 use Rattle.answers.specs.Answers.{answer-of, AcceptsAll, Agrees, Comes}
 use Rattle.answers.proofs.Calls.{Accepted, is-accepted}
 
-front : (xs ys : List ℕ) → length xs ≡ 0 → xs ++ ys ≡ ys
+-- none of a list lies before the rest of it
+pub front : (xs ys : List ℕ) → length xs ≡ 0 → xs ++ ys ≡ ys
 front [] ys e = refl
 front (x ∷ xs) ys e = absurd (omega arith)
 

@@ -33,6 +33,7 @@ module _ (schema : CompiledSchema) (seen : List (Param ResolvedType)) (f : Trait
           → (after o λ w t. done (u + w) (record { name = f .name; params = ps; return-type = normalize-return t })) ≡ done v s → Resolved s
       by-return u ps p too-large q h = absurd (let z : _≡_ {A = ℕ} 0 1 = cc in omega arith)
       by-return u ps p (done w t) q h = record { params-visits = u; params = ps; params-is = p; return-visits = w; returns = t; returns-is = q; so = same-signature h }
+
       by-params : (o : Counted (List (Param ResolvedType))) → resolve-params schema seen (f .params) ≡ o
           → (after o λ u ps. after (resolve-return schema seen (f .return-type)) λ w t. done (u + w) (record { name = f .name; params = ps; return-type = normalize-return t })) ≡ done v s → Resolved s
       by-params too-large p h = absurd (let z : _≡_ {A = ℕ} 0 1 = cc in omega arith)
@@ -69,9 +70,11 @@ module _ (schema : CompiledSchema) (seen : List (Param ResolvedType)) (f : Trait
             → next u s o ≡ ok (v, ss) → First ss
         by-others u s p (err x) q h = absurd (let z : _≡_ {A = ℕ} 0 1 = cc in omega arith)
         by-others u s p (ok (w, ts)) q h = record { visits = u; signature = s; is = p; others-visits = w; others = ts; others-is = q; so = same-list h }
+
         by-poison : (u : ℕ) (s : PortableSignature) → resolve-signature schema seen f ≡ done u s → (b : Bool) → rest (tested u s b) ≡ ok (v, ss) → First ss
         by-poison u s p true h = absurd (let z : _≡_ {A = ℕ} 0 1 = cc in omega arith)
         by-poison u s p false h = by-others u s p (expected-list schema seen fs) refl h
+
         by-signature : (o : Counted PortableSignature) → resolve-signature schema seen f ≡ o → rest (expected-function schema seen (f .name) o) ≡ ok (v, ss) → First ss
         by-signature too-large p h = absurd (let z : _≡_ {A = ℕ} 0 1 = cc in omega arith)
         by-signature (done u s) p h = by-poison u s p (poisoned-params (s .params) || poisoned-return (s .return-type)) h

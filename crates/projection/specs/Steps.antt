@@ -1,12 +1,12 @@
 -- The rules' projection by its steps, as words.
 use Prim.Native.Nat.{ℕ}
-use mathlib.Core.List.{List}
-use Rattle.rules.specs.Syntax.{MessageDef, ImplDef}
+use mathlib.Core.List.{List, [], map}
+use Rattle.rules.specs.Syntax.{MessageDef, TraitDef, ImplDef, CompiledSchema}
 use Rattle.rules.specs.Refusal.{Result, ok, _>>=_, or-refuse, in-function}
-use Rattle.rules.specs.Signatures.{PortableSignature}
+use Rattle.rules.specs.Signatures.{PortableSignature, expected-functions}
 use Rattle.rules.specs.CheckSignature.{check-signature}
 use Rattle.rules.specs.Bodies.{PortableFunction, project-function}
-use Rattle.rules.specs.Project.{find-function, project-list}
+use Rattle.rules.specs.Project.{no-repeat, no-stranger, find-function, project-list}
 use Rattle.rules.specs.Output.{function-words, functions-words}
 
 module _ (impl : ImplDef) (message : MessageDef) where
@@ -23,3 +23,17 @@ module _ (impl : ImplDef) (message : MessageDef) where
   -- all of them, their count first
   unfoldable pub list-words : List PortableSignature → Result (List ℕ)
   list-words ss = project-list impl message ss >>= λ fs. ok (functions-words fs)
+
+  -- 9 and 10 before them
+  unfoldable pub tested-words : List PortableSignature → Result (List ℕ)
+  tested-words ss = do
+    _ ← no-repeat [] (impl .functions)
+    _ ← no-stranger (map (λ s. s .name) ss) (impl .functions)
+    list-words ss
+
+  -- 6, 8 and 7 before all of it; the visits besides
+  unfoldable pub found-words : CompiledSchema → TraitDef → Result (ℕ × List ℕ)
+  found-words schema trait = do
+    (visits, expected) ← expected-functions schema trait impl
+    words ← tested-words expected
+    ok (visits, words)

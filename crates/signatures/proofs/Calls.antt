@@ -1,9 +1,9 @@
 -- The call by the rows that it finds. Assumes nothing.
-use Prim.Native.Nat.{ℕ, _+_, _<_, _^_}
-use native.Mathlib.Omega.{arith}
-use mathlib.Core.Path.{_≡_, sym, ap, subst, _∙_}
+use Prim.Native.Nat.{ℕ, _<_, _^_}
+use mathlib.Core.Path.{_≡_, ap, _∙_}
 use mathlib.Core.List.{List}
 use mathlib.Core.Option.{Option, none, some}
+use native.Mathlib.Omega.{arith}
 use Rattle.rules.specs.Words.{NONE}
 use Rattle.rules.specs.Syntax.{TraitDef, ImplDef, CompiledSchema}
 use Rattle.rules.specs.Options.{then}
@@ -13,21 +13,13 @@ use Rattle.rules.specs.Signatures.{as-trait, find-trait, expected-functions}
 use Rattle.rules.specs.Project.{as-implementation, find-implementation, expected-signatures}
 use Rattle.rules.specs.Output.{signatures-words}
 use Rattle.rules.specs.Answer.{signatures-call}
-use Rattle.reading.specs.Gives.{Counted}
 use Rattle.layout.specs.declared.Layout.{Layout}
-use Rattle.layout.specs.Open.{Open, pool-words}
 use Rattle.layout.specs.Opens.{Opens}
 use Rattle.laws_answers.specs.Answers.{signatures-bound}
 use Rattle.answers.specs.declared.answer.Outcome.{Outcome}
 use Rattle.answers.proofs.Calls.{Accepted}
 use Rattle.answers.proofs.Passes.{length-fits}
-use Rattle.pool_types.specs.TypeAt.{Type-stands}
-use Rattle.stored.specs.declared.Held.{Held}
-use Rattle.stored.specs.Held.{Types}
-use Rattle.traits.specs.declared.find.Found.{Found}
-use Rattle.traits.specs.Found.{Impl-here, Trait-here}
-use Rattle.traits.proofs.Has.{Has}
-use Rattle.expected.specs.Asked.{in-words, Asked}
+use Rattle.expected.specs.Asked.{in-words}
 
 module _ (s : CompiledSchema) (number : ℕ) where
   abbrev after-impl : Result ImplDef → Result (ℕ × List ℕ)
@@ -58,21 +50,6 @@ module _ (s : CompiledSchema) (number : ℕ) where
     pub with-trait : {t : TraitDef} → then (get s (i .trait-id)) as-trait ≡ some t → signatures-call number s ≡ in-words (expected-functions s t i)
     unfolding or-refuse _>>=_
     with-trait q = by-trait q
-
--- the trait and the type arguments of an implementation
-module _ {image : List ℕ} {l : Layout} {s : CompiledSchema} (o : Open image l s) {f g : Found} {x : Option ImplDef} {y : Option TraitDef} (h : Has (Impl-here image l) x f) (t : Has (Trait-here image l) y g)
-    {target : Held} (types : Types (l .names .rows) (pool-words image l) (f .start + 1 + 1) target) where
-  abbrev pub asked : Asked image l (g .start) (target .next)
-  asked = record {
-    schema = s;
-    opened = o;
-    trait = t .a;
-    trait-end = t .behind;
-    trait-at = t .stands;
-    impl = h .a;
-    types-end = h .stands .parts .type-args-end;
-    types-at = subst (λ (k : ℕ). Counted (pool-words image l) 8 (Type-stands (l .names .rows) (pool-words image l)) (h .a .type-args) k (h .stands .parts .type-args-end)) (sym (types (h .a .target-type) (h .stands .parts .target-end) (h .stands .parts .target-at .words-at) (h .stands .parts .target-at .good) .1)) (h .stands .parts .type-args-at);
-  }
 
 -- an accepted length fits a word
 pub signatures-fit : {image : List ℕ} {l : Layout} (o : Opens image l) (number : ℕ) {old new : List ℕ} {r : Outcome} → Accepted (signatures-call number (o .schema)) old new r → r .length < 2 ^ 32
