@@ -1,0 +1,81 @@
+/* The proved calls of Fruscalitu for C: target/staticlib/libexports.a, which `rt staticlib exports` builds.
+ *
+ * Each function has a proved statement in crates/exports. What C itself must keep, since no proof sees it:
+ *
+ * - A slice is passed as two arguments, an address and a count of elements. The address is never NULL, not even beside
+ *   a count of 0, and that many elements can be read there, and written where it is not const.
+ * - The slices that are written (output, detail, answer) overlap neither one another nor the image.
+ * - The caller has 8 MB of stack left: substitution nests up to 1,024 calls.
+ * - The archive is for x86-64 Linux, and asks of C's library memcpy and memset.
+ *
+ * Nothing is kept after a call, nothing is allocated, there is no state: threads may call at once, each with its own
+ * slices. Every image, number and count has an answer; nothing is required of the bytes.
+ */
+#ifndef FRUSCALITU_H
+#define FRUSCALITU_H
+
+#include <stdbool.h>
+#include <stddef.h>
+#include <stdint.h>
+
+#ifdef __cplusplus
+extern "C" {
+#endif
+
+/* The absent name, and the result where the answer's block is short. */
+#define FRUSCALITU_NONE UINT32_C(4294967295)
+
+/* The least detail that is not answered with 1. */
+#define FRUSCALITU_DETAIL_BYTES 576
+
+/* The words of an answer, by their places in the block. */
+enum {
+    FRUSCALITU_NUMBER,   /* 0 accepted, 1 to 24 as below */
+    FRUSCALITU_FUNCTION, /* name row of the function, or FRUSCALITU_NONE */
+    FRUSCALITU_SECOND,   /* name row of the second name, or FRUSCALITU_NONE */
+    FRUSCALITU_LENGTH,   /* bytes written to the output; under 24 the bytes needed; else 0 */
+    FRUSCALITU_VISITS,   /* of an accepted answer the type-expression nodes read; else 0 */
+    FRUSCALITU_WORDS
+};
+
+/* Whether the image is readable: the two calls below answer 2 exactly where it is not. Writes nothing. */
+bool fruscalitu_readable(const uint8_t *image, size_t image_length);
+
+/* The signatures that the trait of an implementation asks for.
+ *
+ * image    the schema image
+ * number   the implementation's definition row
+ * output   on acceptance the output words are written from its start, each as four bytes, the low one first; the rest,
+ *          and under a refusal all of it, stays as found
+ * detail   only 6 writes to it, from its start, words as in the output; the rest stays as found
+ * answer   the five words above are written from its start; the rest stays as found
+ *
+ * Gives back the first word of the answer. Where the answer has fewer than FRUSCALITU_WORDS words nothing is written
+ * and FRUSCALITU_NONE is given back, which is no number of an answer.
+ *
+ * The numbers, in the order in which they are asked; each is given exactly when
+ *
+ *   1   detail has fewer than FRUSCALITU_DETAIL_BYTES bytes
+ *   2   the image breaks a rule or a bound
+ *   3   the number is no implementation's row
+ *   4   UnknownTrait: the trait is absent or not a trait's row; second: the trait's name
+ *   6   SignatureMismatch of type-argument counts; function: the trait's name; detail: 0, expected, found
+ *   then for each function of the trait in order
+ *   8   a type is too large: over 1,024 visits, or over 64 words on the way; function
+ *   7   UnresolvedType: poison anywhere in a parameter or the return; function
+ *   and last
+ *   24  the output is too short; the length is the bytes needed
+ *   0   otherwise
+ *
+ * Output words: the count of functions, in the trait's order; each has its name, the count of its parameters, each
+ * parameter's name and type, then 0, or 1 and the type that it returns.
+ */
+uint32_t fruscalitu_expected_signatures(const uint8_t *image, size_t image_length, uint32_t number, uint8_t *output,
+                                        size_t output_length, uint8_t *detail, size_t detail_length, uint32_t *answer,
+                                        size_t answer_length);
+
+#ifdef __cplusplus
+}
+#endif
+
+#endif
