@@ -9,7 +9,7 @@ use crate::{Accepted, PortableFunctionError, TypeId};
 const DETAIL_BYTES: usize = 576;
 
 /// Most outputs fit; a longer one is asked for again with the room that it needs.
-const FIRST_ROOM: usize = 4096;
+pub const FIRST_ROOM: usize = 4096;
 
 /// Asks, and on 24 once more with the room that is needed.
 pub fn ask(call: Call, image: &[u8], number: TypeId) -> Result<Accepted, PortableFunctionError> {

@@ -16,6 +16,8 @@ mod decode;
 mod error;
 #[allow(unsafe_code)]
 mod linked;
+#[cfg(test)]
+mod tests;
 mod words;
 
 pub use error::{Context, Operator, PortableFunctionError, ReturnDetail, SignatureDetail};

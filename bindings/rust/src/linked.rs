@@ -6,8 +6,8 @@ use std::thread;
 /// The words of an answer: number, function, second, length, visits.
 pub const ANSWER_WORDS: usize = 5;
 
-/// Substitution nests up to 1,024 calls, of about 4 KB together with what they call: more than the 2 MB that a thread
-/// of Rust has by default. This is the fourfold of that.
+/// Substitution nests up to 1,024 calls of about 4 KB each: more than the 2 MB that a thread of Rust has by default.
+/// This is four times as much as they take.
 const STACK_BYTES: usize = 16 << 20;
 
 /// One of the library's two calls.
