@@ -21,6 +21,6 @@ put-spec =
     (λ c κs. search needs)
     (λ c. search needs)
     (λ c.
-        let a = c .before .before .before .before .before .before .args in
-        let e = c .before .before .write .ensures in
-        written-one _ _ _ _ _ _ (e .0, ap (λ (l : List ℕ). l ++ drop (a .limit) (now (a .out))) (e .1) ∙ put-prefix (a .limit) (a .to) (a .w) (now (a .out)) (c .before .before .before .before .before .before .pre))))
+    let a = c .before .before .before .before .before .before .args in
+    let e = c .before .before .write .ensures in
+    written-one _ _ _ _ _ _ (e .0, ap (λ (l : List ℕ). l ++ drop (a .limit) (now (a .out))) (e .1) ∙ put-prefix (a .limit) (a .to) (a .w) (now (a .out)) (c .before .before .before .before .before .before .pre))))
