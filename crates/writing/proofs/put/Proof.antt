@@ -4,6 +4,7 @@ use mathlib.Core.Path.{sym, ap, _∙_}
 use mathlib.Core.List.{List, _++_}
 use denote.Ref.{now}
 use Prim.Native.Nat.{ℕ}
+use native.Mathlib.Omega.{arith}
 use lib.ListN.{drop}
 use lib.Seq.{length-take-le}
 use Rattle.writing.specs.Prefix.{put-prefix}
@@ -17,7 +18,7 @@ put-spec =
     (tie.spec
     (λ c. written-far _ _ _ _ (c .if1 .taken))
     (λ c. search needs)
-    (λ c. sym (length-take-le _ _ (c .before .before .before .pre)))
+    (λ c. sym (length-take-le _ _ (omega (arith, c .before .before .before .pre))))
     (λ c κs. search needs)
     (λ c. search needs)
     (λ c.
