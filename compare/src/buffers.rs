@@ -10,8 +10,8 @@ pub const DETAIL_FILL: u8 = 85;
 const CANARY: u8 = 204;
 const MARGIN: usize = 64;
 
-/// Something that answers a call as document 01 says.
-pub type Side = fn(Call, &[u8], u32, &mut [u8], &mut [u8]) -> Answer;
+/// Something that answers a call as document 01 says, or an error where it touches what is not lent to it.
+pub type Side = fn(Call, &[u8], u32, &mut [u8], &mut [u8]) -> Result<Answer, String>;
 
 #[derive(Default)]
 pub struct Buffers {
@@ -25,7 +25,7 @@ impl Buffers {
         lend(&mut self.output, case.output, OUTPUT_FILL);
         lend(&mut self.detail, case.detail, DETAIL_FILL);
         let (output, detail) = (inner(&mut self.output), inner(&mut self.detail));
-        let answer = side(case.call, &case.image, case.row, output, detail);
+        let answer = side(case.call, &case.image, case.row, output, detail)?;
         match [&self.output, &self.detail].iter().all(|buffer| untouched(buffer)) {
             true => Ok(answer),
             false => Err("a canary beside a lent buffer is changed".into()),

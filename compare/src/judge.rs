@@ -31,7 +31,7 @@ pub struct Judged {
 #[derive(Default)]
 pub struct Judge {
     /// By call, a side that must answer as the second reading does, and leave every byte of both buffers as it does.
-    pub beside: [Option<Side>; 2],
+    beside: [Option<Side>; 2],
     buffers: Buffers,
     others: Buffers,
     /// The last image's schema: several cases ask about one image.
@@ -39,6 +39,11 @@ pub struct Judge {
 }
 
 impl Judge {
+    /// With a side beside, by call.
+    pub fn with(beside: [Option<Side>; 2]) -> Self {
+        Judge { beside, ..Judge::default() }
+    }
+
     /// The case's answer, or how the sides differ.
     pub fn judge(&mut self, case: &Case) -> Result<Judged, String> {
         let whole = self.ask(case)?;
@@ -49,7 +54,7 @@ impl Judge {
 
     /// Asks the second reading, and sees that it wrote no more than it may.
     fn ask(&mut self, case: &Case) -> Result<Whole, String> {
-        let answer = self.buffers.ask(second::answer, case)?;
+        let answer = self.buffers.ask(second_reading, case)?;
         if let Some(side) = self.beside[case.call as usize] {
             let other = self.others.ask(side, case)?;
             same(&answer, &other, &self.buffers, &self.others)?;
@@ -132,6 +137,17 @@ impl Judge {
     }
 }
 
+/// The second reading as a side.
+pub fn second_reading(
+    call: Call,
+    image: &[u8],
+    row: u32,
+    output: &mut [u8],
+    detail: &mut [u8],
+) -> Result<Answer, String> {
+    Ok(second::answer(call, image, row, output, detail))
+}
+
 /// All five fields, and every byte that was lent.
 fn same(answer: &Answer, other: &Answer, buffers: &Buffers, others: &Buffers) -> Result<(), String> {
     if answer != other {
@@ -193,7 +209,7 @@ mod tests {
 
     /// Judges edges and random cases with a side beside both calls.
     fn beside(side: Side) -> Result<(), String> {
-        let mut judge = Judge { beside: [Some(side); 2], ..Judge::default() };
+        let mut judge = Judge::with([Some(side); 2]);
         for case in gen::edge_cases().chain(gen::Cases::new(5).take(3_000)) {
             judge.judge(&case).map_err(|said| format!("{said}: {}", crate::text::question(&case)))?;
         }
@@ -202,7 +218,7 @@ mod tests {
 
     #[test]
     fn edges_and_random_cases_agree() {
-        beside(second::answer).unwrap();
+        beside(second_reading).unwrap();
     }
 
     #[test]
@@ -210,27 +226,27 @@ mod tests {
         let slips: [(&str, Side); 4] = [
             ("says", |call, image, row, output, detail| {
                 let answer = second::answer(call, image, row, output, detail);
-                Answer { visits: answer.visits.min(1_024), ..answer }
+                Ok(Answer { visits: answer.visits.min(1_024), ..answer })
             }),
             ("output", |call, image, row, output, detail| {
                 let answer = second::answer(call, image, row, output, detail);
                 if answer.number == 24 {
                     output.fill(0);
                 }
-                answer
+                Ok(answer)
             }),
             ("output", |call, image, row, output, detail| {
                 let answer = second::answer(call, image, row, output, detail);
                 if let (0, Some(behind)) = (answer.number, output.get_mut(answer.length as usize)) {
                     *behind = 0;
                 }
-                answer
+                Ok(answer)
             }),
             ("detail", |call, image, row, output, detail| {
                 if let Some(last) = detail.get_mut(576) {
                     *last = 0;
                 }
-                second::answer(call, image, row, output, detail)
+                second_reading(call, image, row, output, detail)
             }),
         ];
         for (what, slip) in slips {

@@ -12,6 +12,7 @@ mod readable;
 mod sample;
 mod second;
 mod sentence;
+mod speed;
 mod table;
 mod text;
 mod worst;
@@ -20,9 +21,11 @@ use std::path::Path;
 use std::process::ExitCode;
 use std::time::Instant;
 
+use case::Case;
 use judge::Judge;
 use options::Options;
 use readable::Verdicts;
+use second::Call;
 use table::Table;
 
 const USAGE: &str = "\
@@ -30,6 +33,9 @@ usage: compare/run SUBCOMMAND [OPTION ..]
   run     [--seed S] [--cases N]   every edge, then N cases from seed S, through both sides; prints a table
   readable [--seed S] [--cases N]  every edge, then images from seed S, N in all: the library's verdict beside two
                                    readings; a table, and times
+  library [--seed S] [--cases N]   every edge, then images from seed S, N cases in all at every boundary of both
+                                   buffers: the library beside the Rust and the second reading; prints a table
+  speed   [--seed S] [--rounds N]  the library's calls beside the Rust's, with and without building its schema
   cyclic  [--seed S] [--cases N]   N cases that never end, each in a child process of the Rust
   text    [--seed S] [--cases N] [--max-image BYTES] [--large N]
                                    N cases as lines of text, balanced over numbers; the last of them large
@@ -38,6 +44,8 @@ usage: compare/run SUBCOMMAND [OPTION ..]
   check   --from FILE              asks both sides about the stored cases
   show    --from FILE --case N     prints one stored case
   build, test                      only builds or tests";
+
+const WITHOUT_LIBRARY: &str = "this build is without the library; compare/run builds it";
 
 /// Why a run ends without success.
 enum Failure {
@@ -76,6 +84,8 @@ fn command(words: &[String]) -> Result<(), Failure> {
     match name.as_str() {
         "run" => run(&options(&["seed", "cases"])?),
         "readable" => readable(&options(&["seed", "cases"])?),
+        "library" => beside(&options(&["seed", "cases"])?),
+        "speed" => speed(&options(&["seed", "rounds"])?),
         "cyclic" => cyclic(&options(&["seed", "cases"])?),
         "text" => lines(&options(&["seed", "cases", "max-image", "large", "from"])?),
         "vectors" => vectors(&options(&["seed", "to"])?),
@@ -88,8 +98,13 @@ fn command(words: &[String]) -> Result<(), Failure> {
 
 fn run(options: &Options) -> Result<(), Failure> {
     let (seed, count) = (options.number("seed", 1)?, options.number("cases", 100_000)?);
-    let (mut judge, mut table, begun) = (Judge::default(), Table::default(), Instant::now());
-    for case in gen::edge_cases().chain(gen::Cases::new(seed)).take(count) {
+    judged(Judge::default(), seed, count, gen::edge_cases().chain(gen::Cases::new(seed)))
+}
+
+/// Judges so many cases; a table.
+fn judged(mut judge: Judge, seed: u64, count: usize, cases: impl Iterator<Item = Case>) -> Result<(), Failure> {
+    let (mut table, begun) = (Table::default(), Instant::now());
+    for case in cases.take(count) {
         table.add(&case, judge.judge(&case));
     }
     let seconds = begun.elapsed().as_secs_f64();
@@ -101,8 +116,29 @@ fn run(options: &Options) -> Result<(), Failure> {
     }
 }
 
+/// The library's calls, in a build that has the library.
+fn calls() -> Result<Vec<Call>, String> {
+    let calls = [Call::ProjectImpl, Call::ExpectedSignatures].into_iter();
+    let has: Vec<Call> = calls.filter(|call| library::ANSWERS[*call as usize].is_some()).collect();
+    match has.is_empty() {
+        true => Err(WITHOUT_LIBRARY.into()),
+        false => Ok(has),
+    }
+}
+
+fn beside(options: &Options) -> Result<(), Failure> {
+    let (seed, count) = (options.number("seed", 1)?, options.number("cases", 100_000)?);
+    judged(Judge::with(library::ANSWERS), seed, count, gen::boundary_cases(seed, &calls()?))
+}
+
+fn speed(options: &Options) -> Result<(), Failure> {
+    let (seed, rounds) = (options.number("seed", 1)?, options.number("rounds", 31)?);
+    print!("{}", speed::times(seed, rounds, &calls()?));
+    Ok(())
+}
+
 fn readable(options: &Options) -> Result<(), Failure> {
-    let library = library::READABLE.ok_or("this build is without the library; compare/run builds it".to_string())?;
+    let library = library::READABLE.ok_or(WITHOUT_LIBRARY.to_string())?;
     let (seed, count) = (options.number("seed", 1)?, options.number("cases", 100_000)?);
     let mut verdicts = Verdicts::new(library);
     verdicts.judge(seed, count);

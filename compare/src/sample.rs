@@ -14,7 +14,7 @@ pub type Sample = Vec<(String, Case, Whole)>;
 const AT_EVERY_LENGTH: [&str; 5] = ["whole-case", "visits-1024", "map-visits-6", "functions-order", "true-equals-p"];
 
 /// Edges that depend on the trait alone are asked for their signatures too.
-const ASKED_TWICE: [&str; 12] = [
+const ASKED_TWICE: [&str; 13] = [
     "visits-",
     "words-",
     "dropped-",
@@ -27,6 +27,7 @@ const ASKED_TWICE: [&str; 12] = [
     "target-",
     "row-",
     "type-parameter-",
+    "lone-trait-",
 ];
 
 /// Cases with images of at most so many bytes, as many of each number of each call as can be, then some large ones.
@@ -82,7 +83,7 @@ pub fn vectors(seed: u64) -> Result<Sample, String> {
             // Replays lend no more than this.
             let output = (need + usize::from(place % 7 == 0)).min(65_536);
             add(edge.label.clone(), Case { output, detail: DETAIL_BYTES + place % 3, ..base.clone() })?;
-            if AT_EVERY_LENGTH.contains(&edge.label.as_str()) && (whole_case || call == Call::ProjectImpl) {
+            if AT_EVERY_LENGTH.contains(&edge.label.as_str()) {
                 let outputs = [0, need.saturating_sub(4), need.saturating_sub(1), need, need + 1, need + 3, 65_536];
                 for output in outputs {
                     add(format!("{}-output-{output}", edge.label), Case { output, ..base.clone() })?;

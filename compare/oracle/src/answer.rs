@@ -36,6 +36,15 @@ impl Loaded {
         Some(self.told(result, |words, signatures| words.signatures(&signatures)))
     }
 
+    /// The Rust's own calls with nothing made of what they give: for times. Whether they accept.
+    pub fn accepts_impl(&self, row: u32) -> Option<bool> {
+        Some(project_impl(&self.schema, self.implementation(row)?).is_ok())
+    }
+
+    pub fn accepts_signatures(&self, row: u32) -> Option<bool> {
+        Some(expected_signatures(&self.schema, self.implementation(row)?).is_ok())
+    }
+
     pub fn is_implementation(&self, row: u32) -> bool {
         self.implementation(row).is_some()
     }

@@ -3,7 +3,7 @@
 use super::alike::{alike, End};
 use super::bounds::BOUNDS;
 use super::damage::damage;
-use super::edges::{edges, lone_bounds};
+use super::edges::edges;
 use super::model::Model;
 use super::rich::rich;
 use super::rng::Rng;
@@ -69,7 +69,7 @@ fn other_texts(rng: &mut Rng, model: &mut Model) {
 
 /// Images without end: those that are always the same, then from a seed, each with a damaged copy of it and of an edge.
 pub fn images(seed: u64) -> impl Iterator<Item = (Source, Vec<u8>)> {
-    let edges: Vec<Vec<u8>> = edges().into_iter().chain(lone_bounds()).map(|edge| edge.image).collect();
+    let edges: Vec<Vec<u8>> = edges().into_iter().map(|edge| edge.image).collect();
     let alikes = [End::OneByte, End::NoSum].into_iter().flat_map(|end| [false, true].map(|twice| alike(end, twice)));
     let (mut rng, near) = (Rng::new(seed), edges.clone());
     let seeded = std::iter::repeat_with(move || {

@@ -92,6 +92,51 @@ pub fn edge_cases() -> impl Iterator<Item = Case> {
     })
 }
 
+/// Images as `edges` and `Cases` have them, each asked for some calls with lengths around every boundary.
+pub fn boundary_cases(seed: u64, calls: &[Call]) -> impl Iterator<Item = Case> + '_ {
+    let mut rng = Rng::new(seed);
+    let seeded = std::iter::repeat_with(move || images::make(&mut rng)).map(|made| (made.image, made.row));
+    let images = edges().into_iter().map(|edge| (edge.image, edge.row)).chain(seeded);
+    images.flat_map(move |(image, row)| {
+        let image: Rc<[u8]> = image.into();
+        calls.iter().flat_map(move |call| at_boundaries(*call, &image, row))
+    })
+}
+
+/// Output: none, one byte short, exact, one more, far more. Detail: none, one byte short, enough, one more.
+fn at_boundaries(call: Call, image: &Rc<[u8]>, row: u32) -> Vec<Case> {
+    let base = Case { call, image: image.clone(), row, output: 0, detail: DETAIL_BYTES };
+    let need = needed(&base);
+    let exact = need.unwrap_or(61);
+    let outputs = match need {
+        Some(need) => vec![0, need - 1, need, need + 1, need + 4_096],
+        None => vec![0, exact],
+    };
+    let details = [0, DETAIL_BYTES - 1, DETAIL_BYTES + 1];
+    let lengths = outputs.into_iter().map(|output| (output, DETAIL_BYTES));
+    let lengths = lengths.chain(details.map(|detail| (exact, detail)));
+    lengths.map(|(output, detail)| Case { output, detail, ..base.clone() }).collect()
+}
+
+/// Accepted images of about so many bytes, with the row to ask.
+pub fn typical(seed: u64, bytes: usize, count: usize) -> Vec<(Vec<u8>, u32)> {
+    let mut rng = Rng::new(seed);
+    let mut found = vec![];
+    while found.len() < count {
+        let bulk = rng.below(bytes / 500 + 1).min(60);
+        let rich = rich::rich(&mut rng, Some(0), bulk);
+        let image = rich.model.plain_image();
+        let calls = [Call::ProjectImpl, Call::ExpectedSignatures];
+        let accepted = |call| {
+            needed(&Case { call, image: image.clone().into(), row: rich.row, output: 0, detail: DETAIL_BYTES }).is_some()
+        };
+        if image.len().abs_diff(bytes) <= bytes / 8 && image.len() <= 65_536 && calls.into_iter().all(accepted) {
+            found.push((image, rich.row));
+        }
+    }
+    found
+}
+
 /// Cases whose aliases never end.
 pub fn cyclic_cases(seed: u64) -> impl Iterator<Item = Case> {
     let mut rng = Rng::new(seed);

@@ -23,12 +23,12 @@ const BINARY_EXPRESSION: u32 = 6;
 const UNARY_EXPRESSION: u32 = 7;
 
 // The method's name in a trait method's call.
-fn method_name(image: &[u8], l: Layout, at: usize) -> u32
+fn method_name(image: &[u8], l: Layout, at: usize) -> NameId
     requires { ⌜ Inside (now image) l ⌝ }
-    ensures { λ r. ⌜ ((nest t x n : ℕ) (e : Expr) (es : Exprs) → Stood (l .names .rows) (l .strings .rows) (pool-words (now (image .entry)) l) nest (Expr.trait-method-call t x e es) at n → r ≡ x) ⌝ }
+    ensures { λ r. ⌜ ((nest t x n : ℕ) (e : Expr) (es : Exprs) → Stood (l .names .rows) (l .strings .rows) (pool-words (now (image .entry)) l) nest (Expr.trait-method-call t x e es) at n → r .0 ≡ x) ⌝ }
 {
     let pool = l.pool;
-    places::operand(image, l, fields::after(pool, at))
+    NameId(places::operand(image, l, fields::after(pool, at)))
 }
 
 // The type of the expression at `at` under an expected type or none; a mismatch is refused in the caller's context.
@@ -100,10 +100,7 @@ pub fn infer_expr(
             17,
         ),
         ExprKind::Call => inferred::answers::refused(13, NameId(places::operand(image, l, at))),
-        ExprKind::TraitMethodCall => inferred::answers::refused(
-            14,
-            NameId(method_name(image, l, at)),
-        ),
+        ExprKind::TraitMethodCall => inferred::answers::refused(14, method_name(image, l, at)),
         ExprKind::Binary => infer_binary(
             image,
             l,

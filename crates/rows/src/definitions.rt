@@ -7,11 +7,11 @@ ghost use Rattle.layout.specs.Rows.{Cut};
 ghost use Rattle.rows.specs.Verdict.{DefinitionSays, DefinitionsSay};
 
 // A kind, and a body of that kind where the row says.
-fn check_definition_row(image: &[u8], l: Layout, i: u32) -> bool
-    requires { ⌜ Cut (now image) l × (i < l .definitions .rows) ⌝ }
-    ensures { λ r. ⌜ DefinitionSays (now (image .entry)) l i r ⌝ }
+fn check_definition_row(image: &[u8], l: Layout, i: TypeId) -> bool
+    requires { ⌜ Cut (now image) l × (i .0 < l .definitions .rows) ⌝ }
+    ensures { λ r. ⌜ DefinitionSays (now (image .entry)) l (i .0) r ⌝ }
 {
-    let row = layout::definition_row(image, l, TypeId(i));
+    let row = layout::definition_row(image, l, i);
     let kind = row.kind;
     let start = row.start as usize;
     let pool = l.pool;
@@ -51,7 +51,7 @@ pub fn check_definitions(image: &[u8], l: Layout) -> bool
     let n = l.definitions.rows;
     let mut i = 0;
     while i < n {
-        if !check_definition_row(image, l, i) {
+        if !check_definition_row(image, l, TypeId(i)) {
             return false;
         }
         i += 1;

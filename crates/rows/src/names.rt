@@ -7,11 +7,11 @@ ghost use Rattle.layout.specs.Rows.{Cut};
 ghost use Rattle.rows.specs.Verdict.{NameSays, NamesSay};
 
 // A text of 1 to 255 bytes inside the texts, a definition that exists or NONE, an alias's type or NONE.
-fn check_name_row(image: &[u8], l: Layout, i: u32) -> bool
-    requires { ⌜ Cut (now image) l × (i < l .names .rows) ⌝ }
-    ensures { λ r. ⌜ NameSays (now (image .entry)) l i r ⌝ }
+fn check_name_row(image: &[u8], l: Layout, i: NameId) -> bool
+    requires { ⌜ Cut (now image) l × (i .0 < l .names .rows) ⌝ }
+    ensures { λ r. ⌜ NameSays (now (image .entry)) l (i .0) r ⌝ }
 {
-    let row = layout::name_row(image, l, NameId(i));
+    let row = layout::name_row(image, l, i);
     let size = row.size as usize;
     if !((1 <= size) & (size <= 255) & (row.start as usize + size <= l.texts)) {
         return false;
@@ -35,7 +35,7 @@ pub fn check_names(image: &[u8], l: Layout) -> bool
     let n = l.names.rows;
     let mut i = 0;
     while i < n {
-        if !check_name_row(image, l, i) {
+        if !check_name_row(image, l, NameId(i)) {
             return false;
         }
         i += 1;

@@ -1,21 +1,19 @@
 //! Bounds passed alone, where the other edges pass another bound with them or try one place only.
 
-use super::{Edge, Edges};
+use super::Edges;
 use crate::gen::model::{TraitFn, Words, NONE};
 use crate::gen::tiny::{tiny, with_body, IMPL, P, X};
 
-/// At each bound and one past it.
-pub fn lone_bounds() -> Vec<Edge> {
-    let mut edges = Edges(vec![]);
-    for (past, label) in ["at", "past"].iter().enumerate() {
-        edges.trait_functions(label, 64 + past);
-        edges.trait_parameters(label, 32 + past);
-        edges.nesting(label, 32 + past);
-    }
-    edges.0
-}
-
 impl Edges {
+    /// At each bound and one past it.
+    pub(super) fn lone_bounds(&mut self) {
+        for (past, label) in ["at", "past"].iter().enumerate() {
+            self.trait_functions(label, 64 + past);
+            self.trait_parameters(label, 32 + past);
+            self.nesting(label, 32 + past);
+        }
+    }
+
     /// A trait with so many functions, of which the implementation has none.
     fn trait_functions(&mut self, label: &str, count: usize) {
         let mut rich = tiny();

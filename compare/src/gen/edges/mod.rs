@@ -11,8 +11,6 @@ use super::rich::{implement, Rich};
 use super::rng::Rng;
 use super::tiny::{padded, tiny, with_body, IMPL, P, X};
 
-pub use lone::lone_bounds;
-
 pub struct Edge {
     pub label: String,
     pub image: Vec<u8>,
@@ -39,6 +37,7 @@ pub fn edges() -> Vec<Edge> {
     edges.codes();
     edges.texts();
     edges.trailers();
+    edges.lone_bounds();
     edges.0
 }
 

@@ -1,0 +1,3 @@
+// What the programs share: bytes from a descriptor, an answer as lines of numbers.
+pub mod input;
+pub mod lines;

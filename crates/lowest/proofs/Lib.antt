@@ -1,0 +1,2 @@
+-- Laws of the lowest row.
+pub mod Rows

@@ -1,0 +1,86 @@
+// A case asked again, and its answer compared.
+use crate::case::Case;
+use answers::answer::Answer;
+use rules::ids::TypeId;
+
+// What every lent byte is before a call.
+const OUTPUT_FILL: u8 = 170;
+
+const DETAIL_FILL: u8 = 85;
+
+// Which parts of an answer are as stored, and how many bytes of both buffers were compared.
+pub struct Compared {
+    pub fields: bool,
+    pub output: bool,
+    pub detail: bool,
+    pub answer: Answer,
+    pub bytes: usize,
+}
+
+impl Compared {
+    pub fn same(self) -> bool {
+        self.fields && self.output && self.detail
+    }
+}
+
+// Whether the five stored words are the answer's.
+fn same_fields(file: &[u8], at: usize, a: Answer) -> bool {
+    let function = a.function;
+    let second = a.second;
+    if words::word_at(file, at) != a.number {
+        return false;
+    }
+    if words::word_at(file, std::num::wrapping_add_usize(at, 4)) != function.0 {
+        return false;
+    }
+    if words::word_at(file, std::num::wrapping_add_usize(at, 8)) != second.0 {
+        return false;
+    }
+    if words::word_at(file, std::num::wrapping_add_usize(at, 12)) != a.length {
+        return false;
+    }
+    words::word_at(file, std::num::wrapping_add_usize(at, 16)) == a.visits
+}
+
+// Whether a buffer holds the stored bytes, and behind them what it was filled with.
+fn holds(buffer: &[u8], stored: &[u8], fill: u8) -> bool {
+    if buffer.len() < stored.len() {
+        return false;
+    }
+    let mut i = 0;
+    while i < stored.len() {
+        if buffer[i] != stored[i] {
+            return false;
+        }
+        i += 1;
+    }
+    while i < buffer.len() {
+        if buffer[i] != fill {
+            return false;
+        }
+        i += 1;
+    }
+    true
+}
+
+// Asks with the two lent buffers.
+fn ask(file: &[u8], c: Case, output: &mut [u8], detail: &mut [u8]) -> Compared {
+    let image = crate::case::bytes(file, c.image);
+    let a = portable::expected_signatures(image, TypeId(c.row), output, detail);
+    Compared {
+        fields: same_fields(file, c.fields, a),
+        output: holds(output, crate::case::bytes(file, c.written), OUTPUT_FILL),
+        detail: holds(detail, crate::case::bytes(file, c.told), DETAIL_FILL),
+        answer: a,
+        bytes: std::num::wrapping_add_usize(output.len(), detail.len()),
+    }
+}
+
+// Asks the case anew in buffers of its lengths.
+pub fn compare(file: &[u8], c: Case) -> Compared {
+    let mut output = [170u8; 65536];
+    let mut detail = [85u8; 1024];
+    let n = crate::case::least(c.output, 65536);
+    let m = crate::case::least(c.detail, 1024);
+    ask(file, c, &mut output[..n], &mut detail[..m])
+}

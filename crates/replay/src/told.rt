@@ -1,0 +1,74 @@
+// What the replay writes.
+use crate::asked::Compared;
+use answers::answer::Answer;
+use asking::lines::print_number;
+use libc::STDOUT_FILENO;
+
+fn text(bytes: &[u8]) {
+    io::write_all(STDOUT_FILENO, bytes);
+}
+
+// A file that could not be read, or is longer than there is room for.
+pub fn unread() {
+    text(b"DAMAGED: cases.bin or labels.txt cannot be read, or is too long\n");
+}
+
+// The file ends inside a case or behind the last.
+pub fn damaged(number: u32) {
+    text(b"DAMAGED: the file of cases is not as long as it says, at case ");
+    print_number(number, b'\n');
+}
+
+// The five fields that were answered.
+fn fields(a: Answer) {
+    let function = a.function;
+    let second = a.second;
+    print_number(a.number, b' ');
+    print_number(function.0, b' ');
+    print_number(second.0, b' ');
+    print_number(a.length, b' ');
+    print_number(a.visits, b'\n');
+}
+
+// What differs in a case.
+fn differs(label: &[u8], c: Compared) {
+    text(b"DIFFERS: ");
+    text(label);
+    if !c.fields {
+        text(b", fields");
+    }
+    if !c.output {
+        text(b", output");
+    }
+    if !c.detail {
+        text(b", detail");
+    }
+    text(b": answered ");
+    let a = c.answer;
+    fields(a);
+}
+
+// A case that differs, or one that is told by name.
+pub fn case(label: &[u8], c: Compared) {
+    if !c.same() {
+        differs(label, c);
+    }
+    if crate::labels::is_named(label) {
+        text(label);
+        text(b": ");
+        let a = c.answer;
+        print_number(a.number, b'\n');
+    }
+}
+
+// What was compared.
+pub fn tally(call: &[u8], cases: u32, bytes: usize, differ: u32) {
+    text(call);
+    text(b": ");
+    print_number(cases, b' ');
+    text(b"cases, all fields, ");
+    io::print_decimal(STDOUT_FILENO, bytes as u64);
+    text(b" bytes of both buffers; ");
+    print_number(differ, b' ');
+    text(b"differ\n");
+}
