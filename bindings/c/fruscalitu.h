@@ -74,6 +74,45 @@ uint32_t fruscalitu_expected_signatures(const uint8_t *image, size_t image_lengt
                                         size_t output_length, uint8_t *detail, size_t detail_length, uint32_t *answer,
                                         size_t answer_length);
 
+#ifdef FRUSCALITU_PROJECT_IMPL /* to be defined where the library has the call; it is still to come */
+/* The functions of an implementation, checked against its trait and typed.
+ *
+ * Parameters, result and buffers are as above, but that 6, 20, 21 and 22 write detail. The numbers, in their order:
+ *
+ *   1 to 4  as above
+ *   5   InvalidTarget: the target is not Named to a message
+ *   6   of type-argument counts, then 8 and 7 for each function of the trait, as above
+ *   9   DuplicateFunction, at the first repeat; function
+ *   10  ExtraFunction, at the first stranger; function
+ *   then for each function of the trait in order
+ *   11  MissingFunction; function
+ *   6   SignatureMismatch; function; detail is a kind, what is expected, what is found: 1 parameter counts; 2 parameter
+ *       names; 3 parameter types (second: the parameter); 4 returns, each 0, or 1 and a type
+ *   12  ExternalFunction; function
+ *   and as its body is read
+ *   13  UnsupportedCall, 14 UnsupportedMethodCall; function, second: what is called
+ *   15  UnsupportedExpressionStatement; function
+ *   16  UnknownLocal, 17 UnknownField, 18 DuplicateLocal; function, second: the name
+ *   19  InvalidAssignmentTarget; function
+ *   20  TypeMismatch; function; detail: context, expected type, actual type. Contexts: 0 integer literal, 1 unsigned
+ *       literal, 2 float literal, 3 local binding, 4 return, 5 receiver field assignment, 6 binary, 7 unary
+ *   21  InvalidOperator; function; detail: operator (0 to 9 as in the image, 10 is -, 11 is !), type
+ *   22  ReturnMismatch; function; detail: 0 void gives a value, 1 value missing, 2 no return at the end
+ *   23  StatementsAfterReturn; function
+ *   and last
+ *   24  the output is too short; the length is the bytes needed
+ *   0   otherwise
+ *
+ * Output words: as above, and each function's return is followed by the count of its statements and by them. A statement
+ * is 1 Let name, type, value; 2 Return 0, or 1 and a value; 3 Assign field, value. A value is its type, then: 0 Int, 1
+ * UInt, 2 Float (two words of bits, the low one first); 3 Bool 0 or 1; 4 String row; 5 Local name; 6 SelfRef; 7 a field
+ * of SelfRef; 10 Binary operator, value, value; 11 Unary 0 Neg or 1 Not, value.
+ */
+uint32_t fruscalitu_project_impl(const uint8_t *image, size_t image_length, uint32_t number, uint8_t *output,
+                                 size_t output_length, uint8_t *detail, size_t detail_length, uint32_t *answer,
+                                 size_t answer_length);
+#endif
+
 #ifdef __cplusplus
 }
 #endif

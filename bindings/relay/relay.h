@@ -5,7 +5,7 @@
 
 #include <stdint.h>
 
-enum call { EXPECTED_SIGNATURES };
+enum call { PROJECT_IMPL, EXPECTED_SIGNATURES };
 
 struct question {
     uint32_t call, number;

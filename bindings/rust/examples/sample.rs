@@ -3,7 +3,7 @@
 use std::error::Error;
 use std::fs;
 
-use fruscalitu::{expected_signatures, run_length, Accepted, TypeId};
+use fruscalitu::{run_length, Accepted, TypeId};
 
 const SAMPLE: &str = concat!(env!("CARGO_MANIFEST_DIR"), "/../../samples/getgm.image");
 
@@ -50,6 +50,47 @@ impl<'a> Reader<'a> {
     }
 }
 
+#[cfg(feature = "project_impl")]
+impl Reader<'_> {
+    fn function(&mut self) -> Option<()> {
+        self.signature()?;
+        for _ in 0..self.word()? {
+            match self.word()? {
+                1 => println!("    let {}: {} = {}", self.name()?, self.ty()?, self.value()?),
+                2 if self.word()? == 0 => println!("    return"),
+                2 => println!("    return {}", self.value()?),
+                3 => println!("    self.{} = {}", self.name()?, self.value()?),
+                _ => return None,
+            }
+        }
+        Some(())
+    }
+
+    /// A value and its type; operators by their numbers.
+    fn value(&mut self) -> Option<String> {
+        let ty = self.ty()?;
+        let value = match self.word()? {
+            0 => (self.bits()? as i64).to_string(),
+            1 => self.bits()?.to_string(),
+            2 => f64::from_bits(self.bits()?).to_string(),
+            3 => (self.word()? == 1).to_string(),
+            4 => format!("string {}", self.word()?),
+            5 => self.name()?,
+            6 => "self".to_string(),
+            7 => format!("self.{}", self.name()?),
+            10 => format!("operator {} of {} and {}", self.word()?, self.value()?, self.value()?),
+            11 => format!("operator {} of {}", self.word()?, self.value()?),
+            _ => return None,
+        };
+        Some(format!("({value}): {ty}"))
+    }
+
+    /// Two words, the low one first.
+    fn bits(&mut self) -> Option<u64> {
+        Some(u64::from(self.word()?) | u64::from(self.word()?) << 32)
+    }
+}
+
 /// The text of a name: the image's trailer of six words tells where the name rows start, and a row where its text does.
 fn text(image: &[u8], row: u32) -> Option<String> {
     let word = |at: usize| Some(u32::from_le_bytes(image.get(at..at + 4)?.try_into().ok()?) as usize);
@@ -72,6 +113,13 @@ fn main() -> Result<(), Box<dyn Error>> {
     let number = TypeId(2);
 
     println!("expected_signatures");
-    print(&image, &expected_signatures(&image, number)?, |words| words.signature()).ok_or("no signatures")?;
+    print(&image, &fruscalitu::expected_signatures(&image, number)?, |words| words.signature())
+        .ok_or("no signatures")?;
+
+    #[cfg(feature = "project_impl")]
+    {
+        println!("project_impl");
+        print(&image, &fruscalitu::project_impl(&image, number)?, |words| words.function()).ok_or("no functions")?;
+    }
     Ok(())
 }

@@ -47,3 +47,9 @@ pub struct Accepted {
 pub fn expected_signatures(image: &[u8], number: TypeId) -> Result<Accepted, PortableFunctionError> {
     call::ask(linked::Call::ExpectedSignatures, image, number)
 }
+
+/// Validates and lowers all functions of one trait implementation.
+#[cfg(feature = "project_impl")]
+pub fn project_impl(image: &[u8], number: TypeId) -> Result<Accepted, PortableFunctionError> {
+    call::ask(linked::Call::ProjectImpl, image, number)
+}

@@ -13,6 +13,8 @@ const STACK_BYTES: usize = 16 << 20;
 /// One of the library's two calls.
 #[derive(Debug, Clone, Copy, PartialEq, Eq)]
 pub enum Call {
+    #[cfg(feature = "project_impl")]
+    ProjectImpl,
     ExpectedSignatures,
 }
 
@@ -30,7 +32,20 @@ type Exported = unsafe extern "C" fn(
 ) -> u32;
 
 extern "C" {
-    // The crate `exports` has the statement.
+    // The crate `exports` has the statements.
+    #[cfg(feature = "project_impl")]
+    fn fruscalitu_project_impl(
+        image: *const u8,
+        image_length: usize,
+        number: u32,
+        output: *mut u8,
+        output_length: usize,
+        detail: *mut u8,
+        detail_length: usize,
+        answer: *mut u32,
+        answer_length: usize,
+    ) -> u32;
+
     fn fruscalitu_expected_signatures(
         image: *const u8,
         image_length: usize,
@@ -64,6 +79,8 @@ impl Call {
 
     fn ask_here(self, image: &[u8], number: u32, output: &mut [u8], detail: &mut [u8]) -> [u32; ANSWER_WORDS] {
         let exported: Exported = match self {
+            #[cfg(feature = "project_impl")]
+            Call::ProjectImpl => fruscalitu_project_impl,
             Call::ExpectedSignatures => fruscalitu_expected_signatures,
         };
         let mut answer = [0; ANSWER_WORDS];

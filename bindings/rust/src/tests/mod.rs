@@ -6,7 +6,11 @@ mod stored;
 use crate::linked::Call;
 use crate::{call, decode, Accepted, PortableFunctionError, TypeId};
 
-const CALLS: [Call; 1] = [Call::ExpectedSignatures];
+const CALLS: &[Call] = &[
+    #[cfg(feature = "project_impl")]
+    Call::ProjectImpl,
+    Call::ExpectedSignatures,
+];
 
 const SAMPLE: &[u8] = include_bytes!("../../../../samples/getgm.image");
 
@@ -16,9 +20,16 @@ fn the_sample_has_its_signatures() {
     assert_eq!(answer, Ok(Accepted { words: vec![1, 0, 0, 1, 1], visits: 1 }));
 }
 
+#[cfg(feature = "project_impl")]
+#[test]
+fn the_sample_has_its_body() {
+    let answer = crate::project_impl(SAMPLE, TypeId(2));
+    assert_eq!(answer, Ok(Accepted { words: vec![1, 0, 0, 1, 1, 1, 2, 1, 1, 0, 5, 0], visits: 1 }));
+}
+
 #[test]
 fn other_numbers_are_no_implementation() {
-    for call in CALLS {
+    for &call in CALLS {
         for number in [0, 1, 3, 255, 256, u32::MAX - 1, u32::MAX] {
             let answer = call::ask(call, SAMPLE, TypeId(number));
             assert_eq!(answer, Err(PortableFunctionError::NoImplementation));
@@ -30,7 +41,7 @@ fn other_numbers_are_no_implementation() {
 fn what_is_no_image_is_unreadable() {
     let long = [SAMPLE, &[0; 65_536]].concat();
     let mut random = images::Random(1);
-    for call in CALLS {
+    for &call in CALLS {
         for image in [&[], &SAMPLE[1..], &SAMPLE[..SAMPLE.len() - 1], &long] {
             assert_eq!(call::ask(call, image, TypeId(2)), Err(PortableFunctionError::UnreadableImage));
         }
@@ -44,7 +55,7 @@ fn what_is_no_image_is_unreadable() {
 #[test]
 fn a_damaged_image_has_an_answer() {
     let mut random = images::Random(2);
-    for call in CALLS {
+    for &call in CALLS {
         for _ in 0..300 {
             let mut image = SAMPLE.to_vec();
             image[random.below(SAMPLE.len())] = random.below(256) as u8;
@@ -74,6 +85,8 @@ fn stored_cases_are_answered_alike() {
     let mut asked = 0;
     for case in stored::cases() {
         let call = match case.call {
+            #[cfg(feature = "project_impl")]
+            0 => Call::ProjectImpl,
             1 => Call::ExpectedSignatures,
             _ => continue,
         };
