@@ -122,6 +122,30 @@ fn stored_refusals_are_decoded() {
 }
 
 #[test]
+fn every_detail_code_is_decoded() {
+    const NONE: u32 = u32::MAX;
+    let mut details = vec![
+        (6, NONE, vec![0, 1, 2]),
+        (6, NONE, vec![1, 1, 2]),
+        (6, NONE, vec![2, 1, 2]),
+        (6, 9, vec![3, 64, 1, 2]),
+        (6, NONE, vec![4, 0, 1, 48, 0]),
+        (6, NONE, vec![4, 1, 48, 0, 0]),
+    ];
+    details.extend((0..8).map(|context| (20, NONE, vec![context, 64, 1, 16, 1, 7])));
+    details.extend((0..12).map(|operator| (21, NONE, vec![operator, 48, 3])));
+    details.extend((0..3).map(|detail| (22, NONE, vec![detail])));
+    for (number, second, words) in details {
+        let refusal = decode::refusal([number, 0, second, 0, 0], &words);
+        assert_eq!(stored::told(&refusal), ([number, 0, second], words));
+    }
+    for (number, past) in [(6, 5), (20, 8), (21, 12), (22, 3)] {
+        let answer = [number, 0, 9, 0, 0];
+        assert_eq!(decode::refusal(answer, &[past, 1, 1]), PortableFunctionError::UnknownAnswer { answer });
+    }
+}
+
+#[test]
 fn words_that_are_no_refusal_are_an_error_value() {
     let mut random = images::Random(3);
     for number in 0..30 {
