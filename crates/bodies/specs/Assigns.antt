@@ -2,11 +2,11 @@
 use Prim.Native.Nat.{ℕ, _+_, _<_}
 use mathlib.Core.Path.{_≡_, refl, sym, ap, subst, _∙_}
 use mathlib.Core.Bool.{true, false, false≢true}
-use mathlib.Core.List.{List, [], _∷_, _++_}
+use mathlib.Core.List.{List, [], _∷_}
 use mathlib.Core.Option.{Option, none, some}
-use lib.ListN.{length, getD}
+use lib.ListN.{length}
 use Rattle.rules.specs.Syntax.{ResolvedType, Expr, Statement}
-use Rattle.rules.specs.Refusal.{Refusal, Result, ok, err, _>>=_, or-refuse, in-function, with-name}
+use Rattle.rules.specs.Refusal.{Result, ok, err, _>>=_, or-refuse, in-function, with-name}
 use Rattle.rules.specs.Infer.{PortableExpr, FunctionContext, find-last, place, infer-expr}
 use Rattle.rules.specs.Bodies.{PortableStatement, assigned-field}
 use Rattle.rules.specs.Output.{value-words, statement-words}

@@ -5,7 +5,7 @@ use mathlib.Core.Bool.{true, false, not}
 use mathlib.Core.List.{List, [], _∷_, _++_}
 use mathlib.Core.Option.{Option, none, some}
 use lib.ListN.{length, getD}
-use Rattle.rules.specs.Syntax.{ResolvedType, run, Param, Expr, Statement}
+use Rattle.rules.specs.Syntax.{ResolvedType, run, Expr, Statement}
 use Rattle.rules.specs.Options.{is-some}
 use Rattle.rules.specs.Refusal.{Refusal, Result, ok, err, _>>=_, ensure, with-name}
 use Rattle.rules.specs.Infer.{PortableExpr, type-of, FunctionContext, find-last, infer-expr}

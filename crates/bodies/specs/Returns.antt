@@ -7,7 +7,7 @@ use mathlib.Core.List.{List, [], _∷_, _++_, append-nil}
 use mathlib.Core.Option.{Option, none, some}
 use lib.ListN.{length, getD}
 use Rattle.rules.specs.Syntax.{ResolvedType, Expr, Statement}
-use Rattle.rules.specs.Refusal.{Refusal, Result, ok, err, _>>=_, ensure, in-function, with-detail}
+use Rattle.rules.specs.Refusal.{Result, ok, err, _>>=_, ensure, in-function, with-detail}
 use Rattle.rules.specs.Infer.{PortableExpr, FunctionContext, infer-expr}
 use Rattle.rules.specs.Bodies.{PortableStatement, is-empty, project-return, project-statements}
 use Rattle.rules.specs.Output.{value-words, statement-words, each}

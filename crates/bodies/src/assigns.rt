@@ -1,9 +1,9 @@
 // Assignments to a field of SelfRef.
-use answers::answer::Outcome;
-use answers::refusal::Refusal;
 use crate::step::ASSIGN;
 use crate::value::NESTING;
 use crate::value::project_value;
+use answers::answer::Outcome;
+use answers::refusal::Refusal;
 use fields::after;
 use layout::Layout;
 use places::Context;
@@ -31,6 +31,9 @@ pub struct Assigned {
 const FIELD_ACCESS: u32 = 7;
 
 const SELF_REF: u32 = 6;
+
+// The context of its value.
+const FIELD_ASSIGNMENT: u32 = 5;
 
 // The field that a target names.
 pub fn assigned_field(image: &[u8], l: Layout, at: usize) -> Assigned
@@ -79,5 +82,18 @@ pub fn project_assign(
     let a = put(out, limit, to, ASSIGN);
     let b = put(out, limit, a, field.0);
     let value = places::skip_expr(image, l, target, NESTING);
-    project_value(image, l, ctx, names, words, lens, value, ty, 5, out, limit, b)
+    project_value(
+        image,
+        l,
+        ctx,
+        names,
+        words,
+        lens,
+        value,
+        ty,
+        FIELD_ASSIGNMENT,
+        out,
+        limit,
+        b,
+    )
 }

@@ -1,9 +1,9 @@
 // Lets: a value under the type written or its own, and a local more.
-use answers::refusal::Refusal;
 use crate::parts::written_type;
 use crate::step::LET;
 use crate::step::Step;
 use crate::value::NESTING;
+use answers::refusal::Refusal;
 use held::types::HeldType;
 use layout::Layout;
 use places::Context;
@@ -21,6 +21,9 @@ ghost use Rattle.places.specs.InContext.{AtContext};
 ghost use Rattle.values.specs.Writes.{WritesOf};
 ghost use Rattle.bodies.specs.Made.{let-words, made-let};
 ghost use Rattle.bodies.specs.Agree.{Steps};
+
+// The context of its value.
+const LOCAL_BINDING: u32 = 3;
 
 // The words of a Let whose accepted value stands at `at`.
 fn write_let(
@@ -100,7 +103,7 @@ pub fn project_let(
         value,
         NESTING,
         expected,
-        3,
+        LOCAL_BINDING,
     );
     if r.number != 0 {
         let done = outcomes::refuse_value(function, r);

@@ -1,11 +1,11 @@
 // The typed statements of one function.
-use answers::answer::Outcome;
-use answers::refusal::Refusal;
 use crate::parts::skip_statement;
 use crate::returns::project_return;
 use crate::returns::return_mismatch;
 use crate::statement::project_statement;
 use crate::step::RETURN;
+use answers::answer::Outcome;
+use answers::refusal::Refusal;
 use fields::after;
 use held::types::MaybeType;
 use layout::Layout;

@@ -1,8 +1,8 @@
 // Returns: what a function gives back, and 22 and 23.
-use answers::answer::Outcome;
-use answers::refusal::Refusal;
 use crate::step::RETURN;
 use crate::value::project_value;
+use answers::answer::Outcome;
+use answers::refusal::Refusal;
 use held::types::MaybeType;
 use layout::Layout;
 use places::Context;
@@ -27,6 +27,9 @@ ghost use Rattle.places.specs.Stood.{AtExpr};
 ghost use Rattle.places.specs.InContext.{AtContext};
 ghost use Rattle.outcomes.specs.Outcomes.{Comes-to};
 ghost use Rattle.bodies.specs.Made.{block-words};
+
+// The context of its value.
+const RETURN_VALUE: u32 = 4;
 
 // 22: kind 0 a void function gives a value, 1 the value is missing, 2 the body does not end with Return.
 pub fn return_mismatch(function: NameId, kind: u32) -> Outcome
@@ -82,7 +85,20 @@ fn return_value(
     }
     let a = put(out, limit, to, RETURN);
     let b = put(out, limit, a, 1);
-    let r = project_value(image, l, ctx, names, words, lens, at, returns, 4, out, limit, b);
+    let r = project_value(
+        image,
+        l,
+        ctx,
+        names,
+        words,
+        lens,
+        at,
+        returns,
+        RETURN_VALUE,
+        out,
+        limit,
+        b,
+    );
     if !r.ok {
         return r;
     }

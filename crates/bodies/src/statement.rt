@@ -1,10 +1,10 @@
 // One statement that is no Return: those behind it are still to come.
-use answers::refusal::Refusal;
 use crate::assigns::project_assign;
 use crate::lets::project_let;
 use crate::step::ASSIGN;
 use crate::step::LET;
 use crate::step::Step;
+use answers::refusal::Refusal;
 use layout::Layout;
 use places::Context;
 ghost use Prim.Native.Nat.{ℕ, _+_, _≤_};

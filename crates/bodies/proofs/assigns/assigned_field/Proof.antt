@@ -1,8 +1,9 @@
+-- `bodies::assigns::assigned_field` meets its contract. Assumes nothing.
+use borrow.Author.Needs.{needs}
 use native.Mathlib.Omega.{arith}
 use mathlib.Core.Path.{refl, sym, _∙_}
 use Rattle.reading.specs.Sections.{length-section}
 use Rattle.bodies.specs.Targets.{at-none, at-other, at-self}
-use borrow.Author.Needs.{needs}
 use Rattle.bodies.proofs.assigns.assigned_field.Statement.{statement}
 use Rattle.bodies.proofs.assigns.assigned_field.Tie as tie
 

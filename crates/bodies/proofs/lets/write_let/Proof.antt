@@ -1,8 +1,9 @@
+-- `bodies::lets::write_let` meets its contract. Assumes nothing.
+use borrow.Author.Needs.{needs}
 use Rattle.writing.specs.Written.{written-then}
 use Rattle.rules.specs.Syntax.{run}
 use Rattle.rules.specs.Infer.{type-of}
 use Rattle.bodies.specs.Lets.{written-let}
-use borrow.Author.Needs.{needs}
 use Rattle.bodies.proofs.lets.write_let.Statement.{statement}
 use Rattle.bodies.proofs.lets.write_let.Tie as tie
 

@@ -1,6 +1,7 @@
+-- `bodies::parts::skip_statement` meets its contract. Assumes nothing.
+use borrow.Author.Needs.{needs}
 use Rattle.laws.specs.Statements.{statement-exact}
 use Rattle.stored.specs.Behind.{behind}
-use borrow.Author.Needs.{needs}
 use Rattle.bodies.proofs.parts.skip_statement.Statement.{statement}
 use Rattle.bodies.proofs.parts.skip_statement.Tie as tie
 

@@ -1,8 +1,9 @@
+-- `bodies::parts::written_type` meets its contract. Assumes nothing.
+use borrow.Author.Needs.{needs}
 use native.Mathlib.Omega.{arith}
 use mathlib.Core.Path.{sym, _∙_}
 use Rattle.reading.specs.Sections.{length-section}
 use Rattle.bodies.specs.Wanted.{wanted-none, wanted-some}
-use borrow.Author.Needs.{needs}
 use Rattle.bodies.proofs.parts.written_type.Statement.{statement}
 use Rattle.bodies.proofs.parts.written_type.Tie as tie
 

@@ -1,8 +1,9 @@
+-- `bodies::returns::return_mismatch` meets its contract. Assumes nothing.
+use borrow.Author.Needs.{needs}
 use native.Mathlib.Omega.{arith}
 use mathlib.Core.Path.{ap, _∙_}
 use Rattle.answers.specs.Refusals.{refusal-of}
 use Rattle.outcomes.proofs.Refusals.{one-more}
-use borrow.Author.Needs.{needs}
 use Rattle.bodies.proofs.returns.return_mismatch.Statement.{statement}
 use Rattle.bodies.proofs.returns.return_mismatch.Tie as tie
 
