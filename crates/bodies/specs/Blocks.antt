@@ -29,10 +29,11 @@ use Rattle.pool_bodies.specs.StatementAt.{Statement-stands}
 use Rattle.places.specs.declared.Context.{Context}
 use Rattle.places.specs.InContext.{InContext, AtContext}
 use Rattle.outcomes.specs.Outcomes.{Comes-to}
-use Rattle.bodies.specs.declared.step.Step.{Step}
-use Rattle.bodies.specs.Made.{Made, block-words, Passing}
-use Rattle.bodies.specs.Agree.{counted, Step-agrees, Steps}
-use Rattle.bodies.specs.Coming.{behind, comes-same, comes-err, comes-ok, comes-behind}
+use Rattle.lets.specs.declared.Step.{Step}
+use Rattle.statements.specs.Made.{Made, block-words}
+use Rattle.bodies.specs.Made.{Passing}
+use Rattle.lets.specs.Agree.{counted, Step-agrees, Steps}
+use Rattle.statements.specs.Coming.{behind, comes-same, comes-err, comes-ok, comes-behind}
 use Rattle.bodies.specs.Passes.{follow, passing-words}
 
 -- statements of the pool, from `at` up to n

@@ -20,10 +20,11 @@ use Rattle.pool_bodies.specs.StatementAt.{Statement-stands}
 use Rattle.places.specs.declared.Context.{Context}
 use Rattle.places.specs.InContext.{InContext}
 use Rattle.outcomes.specs.Outcomes.{Words-agree, Comes-to}
-use Rattle.bodies.specs.declared.step.Step.{Step}
-use Rattle.bodies.specs.Made.{Made, made-let, made-assign, assign-words, block-words, Passing}
-use Rattle.bodies.specs.Agree.{counted, Step-agrees, Steps}
-use Rattle.bodies.specs.Coming.{behind}
+use Rattle.lets.specs.declared.Step.{Step}
+use Rattle.statements.specs.Made.{Made, made-let, made-assign, assign-words, block-words}
+use Rattle.bodies.specs.Made.{Passing}
+use Rattle.lets.specs.Agree.{counted, Step-agrees, Steps}
+use Rattle.statements.specs.Coming.{behind}
 
 -- a statement's words, then those of the statements in the context behind it
 unfoldable pub follow : Result Made → (FunctionContext → Result (List ℕ)) → Result (List ℕ)

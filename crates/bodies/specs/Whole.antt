@@ -22,8 +22,9 @@ use Rattle.foretold.specs.Accepted.{bind-ok}
 use Rattle.writing.specs.Written.{Written}
 use Rattle.pool_bodies.specs.StatementAt.{Body-stands}
 use Rattle.outcomes.specs.Outcomes.{Comes-to}
-use Rattle.bodies.specs.Made.{body-words-of, block-words}
-use Rattle.bodies.specs.Coming.{behind, comes-same, comes-err, comes-behind}
+use Rattle.statements.specs.Made.{block-words}
+use Rattle.bodies.specs.Made.{body-words-of}
+use Rattle.statements.specs.Coming.{behind, comes-same, comes-err, comes-behind}
 use Rattle.bodies.specs.Blocks.{Statements}
 
 none-behind : (ss : List Statement) (z : Refusal) (a : Unit {0}) → ensure (is-empty ss) z ≡ ok a → length ss ≡ 0

@@ -10,7 +10,7 @@ use mathlib.Core.Option.{Option}
 use lib.ListN.{length}
 use Rattle.rules.specs.Syntax.{ResolvedType}
 use Rattle.rules.specs.Refusal.{with-detail}
-use Rattle.bodies.specs.Made.{block-words}
+use Rattle.statements.specs.Made.{block-words}
 use Rattle.bodies.specs.Blocks.{AtBlock, Left, started, returned, passed-refused, passed-on, ended-early, ended}
 use Rattle.bodies.proofs.project_statements.Statement.{statement}
 use Rattle.bodies.proofs.project_statements.Tie as tie
