@@ -30,7 +30,8 @@ use Rattle.places.specs.declared.Context.{Context}
 use Rattle.places.specs.InContext.{InContext, AtContext}
 use Rattle.outcomes.specs.Outcomes.{Comes-to}
 use Rattle.lets.specs.declared.Step.{Step}
-use Rattle.statements.specs.Made.{Made, block-words}
+use Rattle.statements.specs.Made.{block-words}
+use Rattle.lets.specs.Made.{Made}
 use Rattle.bodies.specs.Made.{Passing}
 use Rattle.lets.specs.Agree.{counted, Step-agrees, Steps}
 use Rattle.statements.specs.Coming.{behind, comes-same, comes-err, comes-ok, comes-behind}

@@ -7,7 +7,8 @@ use Rattle.rules.specs.Refusal.{Result, ok, err, _>>=_, in-function}
 use Rattle.rules.specs.Infer.{FunctionContext}
 use Rattle.rules.specs.Bodies.{project-statements, block-of}
 use Rattle.rules.specs.Output.{statement-words, listed}
-use Rattle.statements.specs.Made.{Made, made-let, made-assign}
+use Rattle.statements.specs.Made.{made-assign}
+use Rattle.lets.specs.Made.{Made, made-let}
 
 -- a body's typed statements: their count, and each one's words
 unfoldable pub body-words-of : FunctionContext → Option ResolvedType → FnBody → Result (List ℕ)

@@ -21,7 +21,8 @@ use Rattle.places.specs.declared.Context.{Context}
 use Rattle.places.specs.InContext.{InContext}
 use Rattle.outcomes.specs.Outcomes.{Words-agree, Comes-to}
 use Rattle.lets.specs.declared.Step.{Step}
-use Rattle.statements.specs.Made.{Made, made-let, made-assign, assign-words, block-words}
+use Rattle.statements.specs.Made.{made-assign, assign-words, block-words}
+use Rattle.lets.specs.Made.{Made, made-let}
 use Rattle.bodies.specs.Made.{Passing}
 use Rattle.lets.specs.Agree.{counted, Step-agrees, Steps}
 use Rattle.statements.specs.Coming.{behind}

@@ -11,7 +11,7 @@ use Rattle.writing.specs.Written.{Written}
 use Rattle.places.specs.declared.Context.{Context}
 use Rattle.places.specs.InContext.{InContext}
 use Rattle.lets.specs.declared.Step.{Step}
-use Rattle.statements.specs.Made.{Made}
+use Rattle.lets.specs.Made.{Made}
 
 -- a context with so many locals
 abbrev pub counted : Context → ℕ → Context

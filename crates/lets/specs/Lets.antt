@@ -28,7 +28,7 @@ use Rattle.places.specs.declared.Context.{Context}
 use Rattle.places.specs.InContext.{InContext}
 use Rattle.places.specs.Stood.{Stood}
 use Rattle.lets.specs.declared.Step.{Step}
-use Rattle.statements.specs.Made.{Made, made-let, let-words}
+use Rattle.lets.specs.Made.{Made, made-let, let-words}
 use Rattle.lets.specs.Agree.{counted, Step-agrees, Steps}
 use Rattle.statements.specs.Values.{said-err, said-ok}
 

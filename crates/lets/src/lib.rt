@@ -18,7 +18,7 @@ ghost use Rattle.pool_bodies.specs.StatementAt.{Statement-stands};
 ghost use Rattle.places.specs.Stood.{AtExpr};
 ghost use Rattle.places.specs.InContext.{AtContext};
 ghost use Rattle.values.specs.Writes.{WritesOf};
-ghost use Rattle.statements.specs.Made.{let-words, made-let};
+ghost use Rattle.lets.specs.Made.{let-words, made-let};
 ghost use Rattle.lets.specs.Agree.{Steps};
 
 // What comes of one statement: its refusal, or where the next word goes; and how many locals are in view behind it.

@@ -1,14 +1,12 @@
 -- What the rules make of each statement, as words.
 use Prim.Native.Nat.{ℕ}
-use mathlib.Core.Bool.{not}
 use mathlib.Core.List.{List}
 use mathlib.Core.Option.{Option, some}
-use Rattle.rules.specs.Syntax.{ResolvedType, Expr, Statement, FnBody}
-use Rattle.rules.specs.Refusal.{Result, ok, err, _>>=_, ensure, or-refuse, in-function, with-name}
-use Rattle.rules.specs.Options.{is-some}
-use Rattle.rules.specs.Infer.{PortableExpr, type-of, FunctionContext, find-last, place, infer-expr}
-use Rattle.rules.specs.Bodies.{PortableStatement, with-local, assigned-field, project-statements, block-of}
-use Rattle.rules.specs.Output.{value-words, statement-words, each, listed}
+use Rattle.rules.specs.Syntax.{ResolvedType, Expr, Statement}
+use Rattle.rules.specs.Refusal.{Result, ok, _>>=_, or-refuse, with-name}
+use Rattle.rules.specs.Infer.{FunctionContext, find-last, place, infer-expr}
+use Rattle.rules.specs.Bodies.{PortableStatement, assigned-field, project-statements}
+use Rattle.rules.specs.Output.{value-words, statement-words, each}
 
 -- the typed statements' words
 unfoldable pub block-words : Option ResolvedType → FunctionContext → List Statement → Result (List ℕ)
@@ -18,19 +16,7 @@ block-words o c ss = project-statements o c ss >>= λ ps. ok (each statement-wor
 unfoldable pub value-of : FunctionContext → Expr → Option ResolvedType → ℕ → Result (List ℕ)
 value-of c e o context = infer-expr c e o context >>= λ v. ok (value-words v)
 
--- a typed statement, and the context of those behind it
-abbrev pub Made : Type 0
-Made = PortableStatement × FunctionContext
-
-unfoldable pub made-let : FunctionContext → ℕ → Option ResolvedType → Expr → Result Made
-made-let c x t e = do
-  _ ← ensure (not (is-some (find-last x (c .locals)))) (with-name 18 (c .function) x)
-  value ← infer-expr c e t 3
-  ok (PortableStatement.let-local x (type-of value) value, with-local c x (type-of value))
-
-unfoldable pub let-words : ℕ → PortableExpr → List ℕ
-let-words x v = statement-words (PortableStatement.let-local x (type-of v) v)
-
+-- an assignment's typed statement, and its words
 unfoldable pub made-assign : FunctionContext → Expr → Expr → Result PortableStatement
 made-assign c target e = do
   f ← assigned-field (c .function) (place target)
