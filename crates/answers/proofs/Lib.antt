@@ -2,3 +2,4 @@
 pub mod Fields
 pub mod Details
 pub mod Calls
+pub mod Passes

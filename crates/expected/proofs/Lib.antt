@@ -2,3 +2,4 @@
 pub mod Lists
 pub mod ListLoop
 pub mod Views
+pub mod AskedOf

@@ -1,3 +1,4 @@
 pub mod Rows
 pub mod Readers
 pub mod Open
+pub mod Opens

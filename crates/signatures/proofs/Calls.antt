@@ -1,9 +1,9 @@
 -- The call by the rows that it finds. Assumes nothing.
-use Prim.Native.Nat.{ℕ, _+_}
-use mathlib.Core.Path.{_≡_, refl, sym, ap, subst, _∙_}
-use mathlib.Core.Bool.{true, false}
+use Prim.Native.Nat.{ℕ, _<_, _^_}
+use mathlib.Core.Path.{_≡_, ap, _∙_}
 use mathlib.Core.List.{List}
 use mathlib.Core.Option.{Option, none, some}
+use native.Mathlib.Omega.{arith}
 use Rattle.rules.specs.Words.{NONE}
 use Rattle.rules.specs.Syntax.{TraitDef, ImplDef, CompiledSchema}
 use Rattle.rules.specs.Options.{then}
@@ -13,46 +13,13 @@ use Rattle.rules.specs.Signatures.{as-trait, find-trait, expected-functions}
 use Rattle.rules.specs.Project.{as-implementation, find-implementation, expected-signatures}
 use Rattle.rules.specs.Output.{signatures-words}
 use Rattle.rules.specs.Answer.{signatures-call}
-use Rattle.reading.specs.Gives.{Counted}
-use Rattle.reading.specs.Steps.{true-false}
 use Rattle.layout.specs.declared.Layout.{Layout}
-use Rattle.layout.specs.Open.{Open, pool-words}
-use Rattle.pool_types.specs.TypeAt.{Type-stands}
-use Rattle.stored.specs.declared.Held.{Held}
-use Rattle.stored.specs.Held.{Types}
-use Rattle.traits.specs.declared.find.Found.{Found}
-use Rattle.traits.specs.Found.{Agrees, Finds, Impl-here, Trait-here}
-use Rattle.expected.specs.Asked.{in-words, Asked}
-
--- what was found
-pub record Has {A : Type 0} (Q : A → ℕ → ℕ → Type 0) (o : Option A) (r : Found) : Type 0 where
-  pub a : A
-  pub is : o ≡ some a
-  pub behind : ℕ
-  pub stands : Q a (r .start) behind
-
-has-o : {A : Type 0} (Q : A → ℕ → ℕ → Type 0) (o : Option A) (r : Found) → Agrees Q o r → r .ok ≡ true → Has Q o r
-has-o Q none r h e = absurd (true-false (sym e ∙ h))
-has-o Q (some a) r h e = record { a = a; is = refl; behind = h .1; stands = h .2 }
-
-lacks-o : {A : Type 0} (Q : A → ℕ → ℕ → Type 0) (o : Option A) (r : Found) → Agrees Q o r → r .ok ≡ false → o ≡ none
-lacks-o Q none r h e = refl
-lacks-o Q (some a) r h e = absurd (true-false (sym (h .0) ∙ e))
-
-module _ {A : Type 0} {Q : A → ℕ → ℕ → Type 0} {o : Option A} {r : Found} (f : Finds Q o r) where
-  pub has : r .ok ≡ true → Has Q o r
-  has e = has-o Q o r (f .is) e
-
-  pub lacks : r .ok ≡ false → o ≡ none
-  lacks e = lacks-o Q o r (f .is) e
-
--- a trait at a number that is the same
-module _ (s : CompiledSchema) {Q : TraitDef → ℕ → ℕ → Type 0} {r : Found} {n m : ℕ} (e : n ≡ m) (f : Finds Q (then (get s n) as-trait) r) where
-  pub trait-at : r .ok ≡ true → Has Q (then (get s m) as-trait) r
-  trait-at y = has (subst (λ (k : ℕ). Finds Q (then (get s k) as-trait) r) e f) y
-
-  pub no-trait-at : r .ok ≡ false → then (get s m) as-trait ≡ none
-  no-trait-at y = lacks (subst (λ (k : ℕ). Finds Q (then (get s k) as-trait) r) e f) y
+use Rattle.layout.specs.Opens.{Opens}
+use Rattle.laws_answers.specs.Answers.{signatures-bound}
+use Rattle.answers.specs.declared.answer.Outcome.{Outcome}
+use Rattle.answers.proofs.Calls.{Accepted}
+use Rattle.answers.proofs.Passes.{length-fits}
+use Rattle.expected.specs.Asked.{in-words}
 
 module _ (s : CompiledSchema) (number : ℕ) where
   abbrev after-impl : Result ImplDef → Result (ℕ × List ℕ)
@@ -84,17 +51,6 @@ module _ (s : CompiledSchema) (number : ℕ) where
     unfolding or-refuse _>>=_
     with-trait q = by-trait q
 
--- the trait and the type arguments of an implementation
-module _ {image : List ℕ} {l : Layout} {s : CompiledSchema} (o : Open image l s) {f g : Found} {x : Option ImplDef} {y : Option TraitDef} (h : Has (Impl-here image l) x f) (t : Has (Trait-here image l) y g)
-    {target : Held} (types : Types (l .names .rows) (pool-words image l) (f .start + 1 + 1) target) where
-  abbrev pub asked : Asked image l (g .start) (target .next)
-  asked = record {
-    schema = s;
-    opened = o;
-    trait = t .a;
-    trait-end = t .behind;
-    trait-at = t .stands;
-    impl = h .a;
-    types-end = h .stands .parts .type-args-end;
-    types-at = subst (λ (k : ℕ). Counted (pool-words image l) 8 (Type-stands (l .names .rows) (pool-words image l)) (h .a .type-args) k (h .stands .parts .type-args-end)) (sym (types (h .a .target-type) (h .stands .parts .target-end) (h .stands .parts .target-at .words-at) (h .stands .parts .target-at .good) .1)) (h .stands .parts .type-args-at);
-  }
+-- an accepted length fits a word
+pub signatures-fit : {image : List ℕ} {l : Layout} (o : Opens image l) (number : ℕ) {old new : List ℕ} {r : Outcome} → Accepted (signatures-call number (o .schema)) old new r → r .length < 2 ^ 32
+signatures-fit {image} o number a = length-fits a (omega (arith, signatures-bound image (o .schema) (o .opened .read) number (a .visits) (a .words) (a .is) .1))

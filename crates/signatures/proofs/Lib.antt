@@ -1,3 +1,2 @@
 -- Laws of the call.
 pub mod Calls
-pub mod Passes

@@ -12,8 +12,8 @@ ghost use Rattle.rules.specs.Syntax.{CompiledSchema};
 ghost use Rattle.rules.specs.Answer.{finished, signatures-call, signatures-answer};
 ghost use Rattle.layout.specs.Rows.{Cut};
 ghost use Rattle.layout.specs.Open.{Open};
+ghost use Rattle.layout.specs.Opens.{Opens};
 ghost use Rattle.answers.specs.Answers.{answer-of, Comes};
-ghost use Rattle.signatures.specs.Opens.{Opens};
 
 // The signatures' words, as far as they fit. 3, then 4, then what the trait's functions come to.
 pub fn signatures(image: &[u8], l: Layout, number: TypeId, out: &mut [u8]) -> Outcome

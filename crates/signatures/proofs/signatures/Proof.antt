@@ -6,7 +6,9 @@ use Rattle.rules.specs.Refusal.{with-name}
 use Rattle.answers.specs.Refusals.{refusal-of}
 use Rattle.answers.proofs.Calls.{comes-err, comes-same}
 use Rattle.signature.proofs.Places.{pool-small}
-use Rattle.signatures.proofs.Calls.{has, lacks, no-trait-at, trait-at, no-impl, no-trait, with-trait, asked}
+use Rattle.traits.proofs.Has.{has, lacks, no-trait-at, trait-at}
+use Rattle.expected.proofs.AskedOf.{asked}
+use Rattle.signatures.proofs.Calls.{no-impl, no-trait, with-trait}
 use borrow.Author.Needs.{needs}
 use Rattle.signatures.proofs.signatures.Statement.{statement}
 use Rattle.signatures.proofs.signatures.Tie as tie

@@ -3,7 +3,8 @@ use borrow.Author.Tests.{not-true, not-false}
 use denote.Ref.{now}
 use Rattle.rules.specs.Answer.{signatures-call}
 use Rattle.answers.proofs.Calls.{is-accepted, is-refused, ends-refused, ends-short, ends-accepted}
-use Rattle.signatures.proofs.Passes.{untouched, untouched-comes, untouched-length, again, one-length, length-fits, visits-same}
+use Rattle.answers.proofs.Passes.{untouched, untouched-comes, untouched-length, again, one-length, visits-same}
+use Rattle.signatures.proofs.Calls.{signatures-fit}
 use borrow.Author.Needs.{needs}
 use Rattle.signatures.proofs.signatures_readable.Statement.{statement}
 use Rattle.signatures.proofs.signatures_readable.Tie as tie
@@ -32,7 +33,7 @@ returns c = λ s o. let a = c .before .before .before .before .before .before .b
 
 cast-too-short : tie.Need-cast-too-short
 cast-too-short c = let p = c .before .before .before .before .before .before .before .before .before .before .pre .1 in
-    omega (arith, length-fits p (c .before .before .before .before .before .before .before .before .before .before .args .number .0) (is-accepted (c .before .before .before .before .before .signatures .ensures (p .schema) (p .opened)) (not-false _ (c .before .if1 .left))))
+    omega (arith, signatures-fit p (c .before .before .before .before .before .before .before .before .before .before .args .number .0) (is-accepted (c .before .before .before .before .before .signatures .ensures (p .schema) (p .opened)) (not-false _ (c .before .if1 .left))))
 
 too-short-requires : tie.Need-too-short-requires
 too-short-requires c κs = search needs
@@ -51,7 +52,7 @@ signatures-requires-2 c κs = search needs
 cast-accept : tie.Need-cast-accept
 cast-accept c = let p = c .before .before .before .before .before .before .before .before .before .before .before .before .before .before .before .pre .1 in
     let k = is-accepted (c .before .before .before .before .before .before .before .before .before .before .signatures .ensures (p .schema) (p .opened)) (not-false _ (c .before .before .before .before .before .before .if1 .left)) in
-    omega (arith, length-fits p (c .before .before .before .before .before .before .before .before .before .before .before .before .before .before .before .args .number .0) (again k (c .before .before .before .signatures2 .ensures (p .schema) (p .opened))))
+    omega (arith, signatures-fit p (c .before .before .before .before .before .before .before .before .before .before .before .before .before .before .before .args .number .0) (again k (c .before .before .before .signatures2 .ensures (p .schema) (p .opened))))
 
 accept-requires : tie.Need-accept-requires
 accept-requires c κs = search needs

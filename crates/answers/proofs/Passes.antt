@@ -6,16 +6,13 @@ use native.Mathlib.Omega.{arith}
 use lib.ListN.{length}
 use Rattle.rules.specs.Refusal.{Result, ok}
 use Rattle.rules.specs.Answer as rules
-use Rattle.rules.specs.Answer.{signatures-call}
-use Rattle.layout.specs.declared.Layout.{Layout}
-use Rattle.laws_answers.specs.Answers.{signatures-bound}
 use Rattle.answers.specs.declared.answer.Answer.{Answer}
 use Rattle.answers.specs.declared.answer.Outcome.{Outcome}
 use Rattle.answers.specs.Answers.{answer-of, AcceptsAll, Agrees, Comes}
 use Rattle.answers.proofs.Calls.{Accepted, is-accepted}
-use Rattle.signatures.specs.Opens.{Opens}
 
-front : (xs ys : List ℕ) → length xs ≡ 0 → xs ++ ys ≡ ys
+-- none of a list lies before the rest of it
+pub front : (xs ys : List ℕ) → length xs ≡ 0 → xs ++ ys ≡ ys
 front [] ys e = refl
 front (x ∷ xs) ys e = absurd (omega arith)
 
@@ -40,8 +37,8 @@ pub one-length : {call : Result (ℕ × List ℕ)} {old new older newer : List �
 one-length a b = omega (arith, a .writes .place, b .writes .place, ap length (words-same (sym (a .is) ∙ b .is)))
 
 -- an accepted length fits a word
-pub length-fits : {image : List ℕ} {l : Layout} (o : Opens image l) (number : ℕ) {old new : List ℕ} {r : Outcome} → Accepted (signatures-call number (o .schema)) old new r → r .length < 2 ^ 32
-length-fits {image} o number a = omega (arith, a .writes .place, signatures-bound image (o .schema) (o .opened .read) number (a .visits) (a .words) (a .is) .1)
+pub length-fits : {call : Result (ℕ × List ℕ)} {old new : List ℕ} {r : Outcome} (a : Accepted call old new r) → length (a .words) < 1000000000 → r .length < 2 ^ 32
+length-fits a few = omega (arith, a .writes .place)
 
 pub visits-same : (a : Answer) (n : ℕ) {v w : ℕ} → v ≡ w → AcceptsAll a n v → AcceptsAll a n w
 visits-same a n e f = subst (AcceptsAll a n) e f

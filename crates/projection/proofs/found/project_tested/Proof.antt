@@ -1,0 +1,37 @@
+-- `projection::found::project_tested` meets its contract. Assumes nothing.
+use borrow.Author.Needs.{needs}
+use mathlib.Core.Path.{_≡_, refl, sym}
+use native.Mathlib.Omega.{arith}
+use borrow.Author.Tests.{not-true, not-false}
+use lib.ListN.{length}
+use lib.Seq.{length-take-le}
+use Rattle.bodies.specs.Coming.{comes-same, comes-err}
+use Rattle.projection.proofs.WholeLaws.{not-passed, was-passed, has-repeat, has-stranger, all-tested}
+use Rattle.projection.proofs.WantedParts.{few, given, asked-at, all, against-names, start-small, types-small}
+use Rattle.projection.proofs.found.project_tested.Statement.{statement}
+use Rattle.projection.proofs.found.project_tested.Tie as tie
+
+pub project-tested-spec : {M : Type 1} → statement M
+project-tested-spec =
+    tie.close
+    (tie.spec
+    (λ c. omega (arith, start-small (c .before .before .before .pre .0 .inside) (c .before .before .before .pre .1 .asked)))
+    (λ c κs. c .before .before .before .pre .0 .inside .pool)
+    (λ c. search needs)
+    (λ c. omega (arith, start-small (c .before .before .before .before .pre .0 .inside) (c .before .before .before .before .pre .1 .asked)))
+    (λ c. omega (arith, start-small (c .before .before .before .before .pre .0 .inside) (c .before .before .before .before .pre .1 .asked)))
+    (λ c. omega (arith, start-small (c .before .before .before .before .pre .0 .inside) (c .before .before .before .before .pre .1 .asked), few (c .before .before .before .before .pre .1) (c .section-word .ensures)))
+    (λ c κs. c .before .before .before .before .pre .0 .inside)
+    (λ c. λ w message s. comes-err (has-repeat (w .asked .impl) message (w .signatures) (not-passed (c .before .before .no-repeat .ensures (w .asked .impl .functions) _ (s .functions-at)) (not-true _ (c .if1 .taken)))) (not-true _ (c .if1 .taken)) refl)
+    (λ c κs. c .before .before .before .before .before .before .before .pre .0 .inside)
+    (λ c. λ w message s. comes-err (has-stranger (w .asked .impl) message (w .signatures) (was-passed (c .before .before .before .before .before .no-repeat .ensures (w .asked .impl .functions) _ (s .functions-at)) (not-false _ (c .before .before .before .if1 .left))) (not-passed (against-names w (c .before .before .before .before .before .before .section-word .ensures) (c .before .before .no-stranger .ensures (w .asked .trait .functions) _ (asked-at w (c .before .before .before .before .before .before .section-word .ensures)) (w .asked .impl .functions) _ (s .functions-at))) (not-true _ (c .if2 .taken)))) (not-true _ (c .if2 .taken)) refl)
+    (λ c. omega (arith, start-small (c .before .before .before .before .before .before .before .before .before .before .pre .0 .inside) (c .before .before .before .before .before .before .before .before .before .before .pre .1 .asked)))
+    (λ c. omega (arith, start-small (c .before .before .before .before .before .before .before .before .before .before .pre .0 .inside) (c .before .before .before .before .before .before .before .before .before .before .pre .1 .asked)))
+    (λ c. omega (arith, types-small (c .before .before .before .before .before .before .before .before .before .before .pre .0 .inside) (c .before .before .before .before .before .before .before .before .before .before .pre .1 .asked)))
+    (λ c κs. (c .before .before .before .before .before .before .before .before .before .before .pre .0 .inside, given (c .before .before .before .before .before .before .before .before .before .before .pre .1) (c .before .before .before .before .before .before .section-word .ensures)))
+    (λ c. omega (arith, few (c .before .before .before .before .before .before .before .before .before .before .before .pre .1) (c .before .before .before .before .before .before .before .section-word .ensures)))
+    (λ c. omega (arith, few (c .before .before .before .before .before .before .before .before .before .before .before .pre .1) (c .before .before .before .before .before .before .before .section-word .ensures)))
+    (λ c. let e : length (c .before .view .result) ≡ 528 = search needs in sym (length-take-le _ _ (omega (arith, few (c .before .before .before .before .before .before .before .before .before .before .before .before .pre .1) (c .before .before .before .before .before .before .before .before .section-word .ensures)))))
+    (λ c κs. (c .before .before .before .before .before .before .before .before .before .before .before .before .before .pre .0, all (c .before .before .before .before .before .before .before .before .before .before .before .before .before .pre .1) (c .before .before .before .before .before .before .before .before .before .section-word .ensures) (c .before .before .view .ensures (given (c .before .before .before .before .before .before .before .before .before .before .before .before .before .pre .1) (c .before .before .before .before .before .before .before .before .before .section-word .ensures))), omega arith))
+    (λ c. search needs)
+    (λ c. λ w message s. comes-same (all-tested (w .asked .impl) message (w .signatures) (was-passed (c .before .before .before .before .before .before .before .before .before .before .before .no-repeat .ensures (w .asked .impl .functions) _ (s .functions-at)) (not-false _ (c .before .before .before .before .before .before .before .before .before .if1 .left))) (was-passed (against-names w (c .before .before .before .before .before .before .before .before .before .before .before .before .section-word .ensures) (c .before .before .before .before .before .before .before .before .no-stranger .ensures (w .asked .trait .functions) _ (asked-at w (c .before .before .before .before .before .before .before .before .before .before .before .before .section-word .ensures)) (w .asked .impl .functions) _ (s .functions-at))) (not-false _ (c .before .before .before .before .before .before .if2 .left)))) (c .before .before .project-list .ensures (all w (c .before .before .before .before .before .before .before .before .before .before .before .before .section-word .ensures) (c .before .before .before .before .before .view .ensures (given w (c .before .before .before .before .before .before .before .before .before .before .before .before .section-word .ensures)))) (w .asked .impl) message s)))

@@ -1,0 +1,73 @@
+// An implementation, its trait and its message, found in the pool.
+use crate::parts::Parts;
+use answers::answer::Outcome;
+use layout::Layout;
+ghost use mathlib.Core.List.{List};
+ghost use Prim.Native.Nat.{ℕ};
+ghost use lib.ListN.{length};
+ghost use Rattle.rules.specs.Syntax.{MessageDef};
+ghost use Rattle.layout.specs.Rows.{Cut};
+ghost use Rattle.answers.specs.Answers.{Comes};
+ghost use Rattle.outcomes.specs.Outcomes.{Comes-to};
+ghost use Rattle.expected.specs.Asked.{Asked};
+ghost use Rattle.projection.specs.Steps.{tested-words, found-words};
+ghost use Rattle.projection.specs.Asked.{Stand, Wanted, Behind, Few};
+
+// 9, then 10, then each function: the trait at `start` with the type arguments at `types`, whose signatures keep the bounds.
+fn project_tested(
+    image: &[u8],
+    l: Layout,
+    start: usize,
+    types: usize,
+    parts: Parts,
+    out: &mut [u8],
+) -> Outcome
+    requires { ⌜ Cut (now image) l × Wanted (now image) l start types ⌝ }
+    ensures { λ r. ⌜ ((w : Wanted (now (image .entry)) l start types) (message : MessageDef) → Stand (now (image .entry)) l parts (w .asked .impl) message → Comes-to (tested-words (w .asked .impl) message (w .signatures)) (length (now (out .entry))) 0 (now (out .entry)) (now (out .exit)) r) ⌝ }
+{
+    let pool = l.pool;
+    let functions = parts.functions;
+    let n = reading::section_word(image, pool, start + 1) as usize;
+    let asked = start + 1 + 1 + n;
+    let repeats = functions::repeats::no_repeat(image, l, functions);
+    if !repeats.ok {
+        return repeats;
+    }
+    let strangers = functions::strangers::no_stranger(image, l, asked, functions);
+    if !strangers.ok {
+        return strangers;
+    }
+    let table = traits::view::view(image, l, start + 1 + 1, types + 1, n);
+    let limit = out.len();
+    crate::list::project_list(image, l, asked, &table[..66 * n], parts, out, limit, 0)
+}
+
+// 6, 8 and 7 of the trait at `start` come before 9 and 10; the message's fields stand at `fields`, the target type at `target`.
+pub fn project_found(
+    image: &[u8],
+    l: Layout,
+    start: usize,
+    types: usize,
+    fields: usize,
+    target: usize,
+    out: &mut [u8],
+) -> Outcome
+    requires { ⌜ Cut (now image) l × Asked (now image) l start types ⌝ }
+    ensures { λ r. ⌜ ((a : Asked (now (image .entry)) l start types) (message : MessageDef) → Behind (now (image .entry)) l (a .impl) message (a .types-end) fields target → Few (found-words (a .impl) message (a .schema) (a .trait)) → Comes (found-words (a .impl) message (a .schema) (a .trait)) (now (out .entry)) (now (out .exit)) r) ⌝ }
+{
+    let e = expected::expected_functions(image, l, start, types, &mut out[..0]);
+    if !e.ok {
+        return e;
+    }
+    let functions = crate::parts::functions_start(image, l, types);
+    let parts = Parts {
+        functions,
+        fields,
+        target,
+    };
+    let p = project_tested(image, l, start, types, parts, out);
+    if !p.ok {
+        return p;
+    }
+    answers::answer::accepted(p.length, e.visits)
+}

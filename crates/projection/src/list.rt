@@ -1,0 +1,42 @@
+// All functions that a trait asks for, in its order.
+use crate::parts::Parts;
+use answers::answer::Outcome;
+use layout::Layout;
+ghost use Prim.Native.Nat.{_≤_};
+ghost use lib.ListN.{length};
+ghost use Rattle.rules.specs.Syntax.{MessageDef, ImplDef};
+ghost use Rattle.layout.specs.Rows.{Cut};
+ghost use Rattle.outcomes.specs.Outcomes.{Comes-to};
+ghost use Rattle.projection.specs.Steps.{list-words};
+ghost use Rattle.projection.specs.Asked.{Stand, All};
+
+// Their count, and each one of the trait functions at `at`.
+pub fn project_list(
+    image: &[u8],
+    l: Layout,
+    at: usize,
+    params: &[u32],
+    parts: Parts,
+    out: &mut [u8],
+    limit: usize,
+    to: usize,
+) -> Outcome
+    requires { ⌜ Cut (now image) l × All (now image) l (now params) at × (limit ≤ length (now out)) ⌝ }
+    ensures { λ r. ⌜ ((h : All (now (image .entry)) l (now (params .entry)) at) (impl : ImplDef) (message : MessageDef) → Stand (now (image .entry)) l parts impl message → Comes-to (list-words impl message (h .signatures)) limit to (now (out .entry)) (now (out .exit)) r) ⌝ }
+{
+    let pool = l.pool;
+    let count = reading::section_word(image, pool, at);
+    let mut place = writing::put(out, limit, to, count);
+    let mut next = at + 1;
+    let mut i = 0;
+    while i < count {
+        let f = crate::one::project_one(image, l, next, params, parts, out, limit, place);
+        if !f.ok {
+            return f;
+        }
+        place = f.length;
+        next = functions::places::after_asked(image, l, next);
+        i += 1;
+    }
+    answers::answer::accepted(place, 0)
+}
