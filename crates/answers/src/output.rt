@@ -11,11 +11,10 @@ pub fn put_words(out: &mut [u8], at: usize, run: &[u32]) -> usize
     requires { ⌜ (at ≤ 900000000) × (length (now run) ≤ 1000) ⌝ }
     ensures { λ r. ⌜ Writes (now (run .entry)) at r (now (out .entry)) (now (out .exit)) ⌝ }
 {
-    let limit = out.len();
     let mut i = 0;
     let mut next = at;
     while i < run.len() {
-        next = words::put_word(out, limit, next, run[i]);
+        next = writer::write(out, next, run[i]);
         i += 1;
     }
     next
@@ -26,8 +25,7 @@ pub fn put(out: &mut [u8], at: usize, w: u32) -> usize
     requires { ⌜ at ≤ 900000000 ⌝ }
     ensures { λ r. ⌜ Writes (w ∷ []) at r (now (out .entry)) (now (out .exit)) ⌝ }
 {
-    let limit = out.len();
-    words::put_word(out, limit, at, w)
+    writer::write(out, at, w)
 }
 
 // A type's run.

@@ -5,3 +5,8 @@ pub mod Targets
 pub mod Wanted
 pub mod Values
 pub mod Returns
+pub mod Assigns
+pub mod Lets
+pub mod Passes
+pub mod Blocks
+pub mod Whole

@@ -32,12 +32,18 @@ made-let c x t e = do
   value ← infer-expr c e t 3
   ok (PortableStatement.let-local x (type-of value) value, with-local c x (type-of value))
 
+unfoldable pub let-words : ℕ → PortableExpr → List ℕ
+let-words x v = statement-words (PortableStatement.let-local x (type-of v) v)
+
 unfoldable pub made-assign : FunctionContext → Expr → Expr → Result PortableStatement
 made-assign c target e = do
   f ← assigned-field (c .function) (place target)
   t ← or-refuse (find-last f (c .fields)) (with-name 17 (c .function) f)
   value ← infer-expr c e (some t) 5
   ok (PortableStatement.assign-self-field f value)
+
+unfoldable pub assign-words : FunctionContext → Expr → Expr → Result (List ℕ)
+assign-words c target e = made-assign c target e >>= λ p. ok (statement-words p)
 
 -- a property of what a statement is made to that is no Return: a Return ends the statements
 abbrev pub Passing : FunctionContext → Statement → (Result Made → Type 0) → Type 0

@@ -1,11 +1,26 @@
 // Assignments to a field of SelfRef.
+use answers::answer::Outcome;
+use answers::refusal::Refusal;
+use crate::step::ASSIGN;
+use crate::value::NESTING;
+use crate::value::project_value;
+use fields::after;
 use layout::Layout;
+use places::Context;
 use rules::ids::NameId;
-ghost use Prim.Native.Nat.{ℕ};
+use writing::put;
+ghost use Prim.Native.Nat.{ℕ, _≤_};
+ghost use lib.ListN.{length};
+ghost use Rattle.rules.specs.Syntax.{Expr, Statement};
 ghost use Rattle.rules.specs.Infer.{place};
 ghost use Rattle.rules.specs.Bodies.{assigned-field};
 ghost use Rattle.layout.specs.Rows.{Inside};
+ghost use Rattle.layout.specs.Open.{pool-words};
+ghost use Rattle.pool_bodies.specs.StatementAt.{Statement-stands};
 ghost use Rattle.places.specs.Stood.{AtExpr};
+ghost use Rattle.places.specs.InContext.{AtContext};
+ghost use Rattle.outcomes.specs.Outcomes.{Comes-to};
+ghost use Rattle.bodies.specs.Made.{assign-words};
 ghost use Rattle.bodies.specs.Targets.{Field-agrees};
 
 pub struct Assigned {
@@ -31,4 +46,38 @@ pub fn assigned_field(image: &[u8], l: Layout, at: usize) -> Assigned
         return Assigned { ok: false, field };
     }
     Assigned { ok: true, field }
+}
+
+// An assignment to a field of SelfRef.
+pub fn project_assign(
+    image: &[u8],
+    l: Layout,
+    at: usize,
+    ctx: Context,
+    names: &[u32],
+    words: &[u32],
+    lens: &[u32],
+    out: &mut [u8],
+    limit: usize,
+    to: usize,
+) -> Outcome
+    requires { ⌜ Inside (now image) l × (limit ≤ length (now out)) ⌝ }
+    ensures { λ r. ⌜ AtContext (now (image .entry)) l (now (names .entry)) (now (words .entry)) (now (lens .entry)) ctx (λ c. (t e : Expr) (n : ℕ) → Statement-stands (l .names .rows) (l .strings .rows) (pool-words (now (image .entry)) l) (Statement.assign t e) at n → Comes-to (assign-words c t e) limit to (now (out .entry)) (now (out .exit)) r) ⌝ }
+{
+    let pool = l.pool;
+    let function = ctx.function;
+    let target = after(pool, at);
+    let f = assigned_field(image, l, target);
+    if !f.ok {
+        return answers::answer::refused(Refusal::at(19, function));
+    }
+    let field = f.field;
+    let ty = fields::field_type(image, l, ctx.fields, field);
+    if !ty.some {
+        return answers::answer::refused(Refusal::named(17, function, field));
+    }
+    let a = put(out, limit, to, ASSIGN);
+    let b = put(out, limit, a, field.0);
+    let value = places::skip_expr(image, l, target, NESTING);
+    project_value(image, l, ctx, names, words, lens, value, ty, 5, out, limit, b)
 }

@@ -1,6 +1,7 @@
 // Returns: what a function gives back, and 22 and 23.
 use answers::answer::Outcome;
 use answers::refusal::Refusal;
+use crate::step::RETURN;
 use crate::value::project_value;
 use held::types::MaybeType;
 use layout::Layout;
@@ -26,8 +27,6 @@ ghost use Rattle.places.specs.Stood.{AtExpr};
 ghost use Rattle.places.specs.InContext.{AtContext};
 ghost use Rattle.outcomes.specs.Outcomes.{Comes-to};
 ghost use Rattle.bodies.specs.Made.{block-words};
-
-const RETURN: u32 = 2;
 
 // 22: kind 0 a void function gives a value, 1 the value is missing, 2 the body does not end with Return.
 pub fn return_mismatch(function: NameId, kind: u32) -> Outcome

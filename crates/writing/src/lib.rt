@@ -21,7 +21,7 @@ pub fn put(out: &mut [u8], limit: usize, to: usize, w: u32) -> usize
     if FAR < to {
         return to;
     }
-    words::put_word(out, limit, to, w)
+    writer::write(&mut out[..limit], to, w)
 }
 
 // A type's run.
