@@ -3,10 +3,9 @@ use Prim.Native.Nat.{ℕ}
 use mathlib.Core.Path.{_≡_, refl, sym, ap, subst, _∙_}
 use mathlib.Core.Bool.{true, false}
 use mathlib.Core.List.{List}
-use mathlib.Core.Option.{Option, none, some}
-use Rattle.rules.specs.Syntax.{FnBody, ImplFnDef, MessageDef, ImplDef}
+use mathlib.Core.Option.{some}
+use Rattle.rules.specs.Syntax.{MessageDef, ImplDef}
 use Rattle.rules.specs.Refusal.{in-function}
-use Rattle.rules.specs.Signatures.{PortableSignature}
 use Rattle.rules.specs.CheckSignature.{check-signature}
 use Rattle.rules.specs.Project.{find-function}
 use Rattle.rules.specs.Output.{signature-words}
