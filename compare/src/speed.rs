@@ -10,7 +10,7 @@ use crate::gen;
 use crate::library;
 use crate::second::{Call, DETAIL_BYTES};
 
-const SIZES: [usize; 4] = [1_000, 4_000, 16_000, 62_000];
+const SIZES: [usize; 4] = [1_024, 4_096, 16_384, 62_000];
 
 /// Images of each size, and the time for which a side is asked over and over in a round, in seconds.
 const IMAGES: usize = 8;

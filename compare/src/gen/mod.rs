@@ -103,7 +103,8 @@ pub fn boundary_cases(seed: u64, calls: &[Call]) -> impl Iterator<Item = Case> +
     })
 }
 
-/// Output: none, one byte short, exact, one more, far more. Detail: none, one byte short, enough, one more.
+/// Output: none, one byte short, exact, one more, far more. Detail: none, one byte short, enough, one more. And
+/// another row.
 fn at_boundaries(call: Call, image: &Rc<[u8]>, row: u32) -> Vec<Case> {
     let base = Case { call, image: image.clone(), row, output: 0, detail: DETAIL_BYTES };
     let need = needed(&base);
@@ -115,22 +116,26 @@ fn at_boundaries(call: Call, image: &Rc<[u8]>, row: u32) -> Vec<Case> {
     let details = [0, DETAIL_BYTES - 1, DETAIL_BYTES + 1];
     let lengths = outputs.into_iter().map(|output| (output, DETAIL_BYTES));
     let lengths = lengths.chain(details.map(|detail| (exact, detail)));
-    lengths.map(|(output, detail)| Case { output, detail, ..base.clone() }).collect()
+    let mut cases: Vec<Case> = lengths.map(|(output, detail)| Case { output, detail, ..base.clone() }).collect();
+    // Another row, often no implementation's.
+    let other = if image.len() % 2 == 0 { row.wrapping_add(1) } else { u32::MAX };
+    cases.push(Case { row: other, output: exact, ..base });
+    cases
 }
 
-/// Accepted images of about so many bytes, with the row to ask.
+/// Images of about so many bytes that both calls accept, with the row to ask.
 pub fn typical(seed: u64, bytes: usize, count: usize) -> Vec<(Vec<u8>, u32)> {
     let mut rng = Rng::new(seed);
     let mut found = vec![];
     while found.len() < count {
-        let bulk = rng.below(bytes / 500 + 1).min(60);
-        let rich = rich::rich(&mut rng, Some(0), bulk);
+        let bulk = rng.below(bytes / 500).min(12);
+        let rich = rich::repeated(&mut rng, bulk, bytes);
         let image = rich.model.plain_image();
-        let calls = [Call::ProjectImpl, Call::ExpectedSignatures];
-        let accepted = |call| {
-            needed(&Case { call, image: image.clone().into(), row: rich.row, output: 0, detail: DETAIL_BYTES }).is_some()
-        };
-        if image.len().abs_diff(bytes) <= bytes / 8 && image.len() <= 65_536 && calls.into_iter().all(accepted) {
+        if image.len().abs_diff(bytes) > bytes / 16 {
+            continue;
+        }
+        let ask = |call| Case { call, image: image.clone().into(), row: rich.row, output: 0, detail: DETAIL_BYTES };
+        if [Call::ProjectImpl, Call::ExpectedSignatures].into_iter().all(|call| needed(&ask(call)).is_some()) {
             found.push((image, rich.row));
         }
     }

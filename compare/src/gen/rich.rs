@@ -39,6 +39,19 @@ pub fn rich(rng: &mut Rng, aim: Option<u32>, bulk: usize) -> Rich {
     Rich { model, row }
 }
 
+/// A model that should be accepted, with so many functions more, whose implementation stands in more rows until the image
+/// has about so many bytes.
+pub fn repeated(rng: &mut Rng, bulk: usize, bytes: usize) -> Rich {
+    let mut rich = rich(rng, Some(0), bulk);
+    let implementation = rich.model.defs[rich.row as usize].clone();
+    let alone = rich.model.plain_image().len();
+    rich.model.defs.push(implementation.clone());
+    let each = rich.model.plain_image().len() - alone;
+    let more = bytes.saturating_sub(alone + each) / each;
+    rich.model.defs.extend(std::iter::repeat_n(implementation, more));
+    rich
+}
+
 /// Names, strings, messages, aliases, traits, and implementations that have no function yet.
 fn skeleton(rng: &mut Rng) -> Model {
     let mut model = Model::default();

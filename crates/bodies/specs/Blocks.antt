@@ -2,15 +2,15 @@
 use Prim.Native.Nat.{ℕ, _+_, _<_, _≤_}
 use native.Mathlib.Omega.{arith}
 use mathlib.Core.Path.{_≡_, refl, sym, ap, subst, _∙_}
-use mathlib.Core.Bool.{Bool, true, false, false≢true}
-use mathlib.Core.List.{List, [], _∷_, _++_}
+use mathlib.Core.Bool.{true, false, false≢true}
+use mathlib.Core.List.{List, [], _∷_}
 use mathlib.Core.Option.{Option, none, some}
 use lib.ListN.{length, getD}
 use lib.Dec.{eqb}
 use borrow.Author.Tests.{eq-eqb, ne-eqb}
 use Rattle.rules.specs.Syntax.{ResolvedType, Expr, Statement}
 use Rattle.rules.specs.Options.{is-some}
-use Rattle.rules.specs.Refusal.{Refusal, Result, ok, err, _>>=_, ensure, in-function, with-detail}
+use Rattle.rules.specs.Refusal.{Result, ok, err, _>>=_, ensure, with-detail}
 use Rattle.rules.specs.Infer.{FunctionContext}
 use Rattle.rules.specs.Bodies.{is-empty, project-statements}
 use Rattle.rules.specs.Output.{statement-words, each}
@@ -29,10 +29,12 @@ use Rattle.pool_bodies.specs.StatementAt.{Statement-stands}
 use Rattle.places.specs.declared.Context.{Context}
 use Rattle.places.specs.InContext.{InContext, AtContext}
 use Rattle.outcomes.specs.Outcomes.{Comes-to}
-use Rattle.bodies.specs.declared.step.Step.{Step}
-use Rattle.bodies.specs.Made.{Made, made-let, made-assign, block-words, Passing}
-use Rattle.bodies.specs.Agree.{counted, Step-agrees, Steps}
-use Rattle.bodies.specs.Coming.{behind, comes-same, comes-err, comes-ok, comes-behind}
+use Rattle.lets.specs.declared.Step.{Step}
+use Rattle.statements.specs.Made.{block-words}
+use Rattle.lets.specs.Made.{Made}
+use Rattle.bodies.specs.Made.{Passing}
+use Rattle.lets.specs.Agree.{counted, Step-agrees, Steps}
+use Rattle.statements.specs.Coming.{behind, comes-same, comes-err, comes-ok, comes-behind}
 use Rattle.bodies.specs.Passes.{follow, passing-words}
 
 -- statements of the pool, from `at` up to n

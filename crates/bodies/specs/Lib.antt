@@ -1,12 +1,4 @@
 pub mod Made
-pub mod Agree
-pub mod Coming
-pub mod Targets
-pub mod Wanted
-pub mod Values
-pub mod Returns
-pub mod Assigns
-pub mod Lets
 pub mod Passes
 pub mod Blocks
 pub mod Whole

@@ -1,11 +1,11 @@
 -- A statement that is no Return, by its code; what it and those behind it come to.
 use Prim.Native.Nat.{ℕ, _+_, _<_, _≤_}
 use native.Mathlib.Omega.{arith}
-use mathlib.Core.Path.{_≡_, refl, sym, ap, subst, _∙_}
+use mathlib.Core.Path.{_≡_, refl, sym, subst}
 use mathlib.Core.Bool.{Bool, true, false, not}
-use mathlib.Core.List.{List, [], _∷_, _++_}
+use mathlib.Core.List.{List, _∷_}
 use mathlib.Core.Option.{Option, some}
-use lib.ListN.{length, getD}
+use lib.ListN.{getD}
 use Rattle.rules.specs.Syntax.{ResolvedType, Expr, Statement}
 use Rattle.rules.specs.Options.{is-some}
 use Rattle.rules.specs.Refusal.{Refusal, Result, ok, err, _>>=_, ensure, or-refuse, in-function, with-name}
@@ -16,15 +16,16 @@ use Rattle.rules.specs.ReadBodies.{let-count}
 use Rattle.laws.specs.Runs.{stored-statement-words}
 use Rattle.stored.specs.Heads.{head}
 use Rattle.layout.specs.declared.Layout.{Layout}
-use Rattle.answers.specs.declared.answer.Outcome.{Outcome}
 use Rattle.pool_bodies.specs.StatementAt.{Statement-stands}
 use Rattle.places.specs.declared.Context.{Context}
 use Rattle.places.specs.InContext.{InContext}
 use Rattle.outcomes.specs.Outcomes.{Words-agree, Comes-to}
-use Rattle.bodies.specs.declared.step.Step.{Step}
-use Rattle.bodies.specs.Made.{Made, made-let, made-assign, assign-words, block-words, Passing}
-use Rattle.bodies.specs.Agree.{counted, Step-agrees, Steps}
-use Rattle.bodies.specs.Coming.{behind}
+use Rattle.lets.specs.declared.Step.{Step}
+use Rattle.statements.specs.Made.{made-assign, assign-words, block-words}
+use Rattle.lets.specs.Made.{Made, made-let}
+use Rattle.bodies.specs.Made.{Passing}
+use Rattle.lets.specs.Agree.{counted, Step-agrees, Steps}
+use Rattle.statements.specs.Coming.{behind}
 
 -- a statement's words, then those of the statements in the context behind it
 unfoldable pub follow : Result Made → (FunctionContext → Result (List ℕ)) → Result (List ℕ)

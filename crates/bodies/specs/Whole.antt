@@ -2,19 +2,18 @@
 use Prim.Native.Nat.{ℕ, suc, _+_, _<_, _≤_}
 use native.Mathlib.Omega.{arith}
 use mathlib.Core.Path.{_≡_, refl, sym, ap, subst, _∙_}
-use mathlib.Core.Bool.{Bool, true, false, not}
+use mathlib.Core.Bool.{false, not}
 use mathlib.Core.List.{List, [], _∷_, _++_}
-use mathlib.Core.Option.{Option, none, some}
+use mathlib.Core.Option.{Option, some}
 use lib.ListN.{length, getD}
-use Rattle.rules.specs.Syntax.{ResolvedType, Expr, Statement, FnBody}
+use Rattle.rules.specs.Syntax.{ResolvedType, Statement, FnBody}
 use Rattle.rules.specs.Refusal.{Refusal, Result, ok, err, _>>=_, ensure, or-refuse, in-function, with-name, with-detail}
 use Rattle.rules.specs.Options.{is-some}
-use Rattle.rules.specs.Infer.{PortableExpr, type-of, FunctionContext, find-last, place, infer-expr}
+use Rattle.rules.specs.Infer.{type-of, FunctionContext, find-last, place, infer-expr}
 use Rattle.rules.specs.Bodies.{PortableStatement, is-empty, with-local, assigned-field, project-return, project-statements, block-of}
 use Rattle.rules.specs.Output.{statement-words, each, listed}
 use Rattle.rules.specs.ReadBodies.{lets}
 use Rattle.laws.specs.Clash.{clash}
-use Rattle.reading.specs.Gives.{Row}
 use Rattle.layout.specs.declared.Layout.{Layout}
 use Rattle.layout.specs.Open.{pool-words}
 use Rattle.answers.specs.declared.answer.Outcome.{Outcome}
@@ -23,8 +22,9 @@ use Rattle.foretold.specs.Accepted.{bind-ok}
 use Rattle.writing.specs.Written.{Written}
 use Rattle.pool_bodies.specs.StatementAt.{Body-stands}
 use Rattle.outcomes.specs.Outcomes.{Comes-to}
-use Rattle.bodies.specs.Made.{body-words-of, block-words}
-use Rattle.bodies.specs.Coming.{behind, comes-same, comes-err, comes-behind}
+use Rattle.statements.specs.Made.{block-words}
+use Rattle.bodies.specs.Made.{body-words-of}
+use Rattle.statements.specs.Coming.{behind, comes-same, comes-err, comes-behind}
 use Rattle.bodies.specs.Blocks.{Statements}
 
 none-behind : (ss : List Statement) (z : Refusal) (a : Unit {0}) → ensure (is-empty ss) z ≡ ok a → length ss ≡ 0

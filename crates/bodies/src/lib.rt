@@ -1,15 +1,15 @@
 // The typed statements of one function.
+use crate::statement::project_statement;
 use answers::answer::Outcome;
 use answers::refusal::Refusal;
-use crate::parts::skip_statement;
-use crate::returns::project_return;
-use crate::returns::return_mismatch;
-use crate::statement::project_statement;
-use crate::step::RETURN;
 use fields::after;
 use held::types::MaybeType;
 use layout::Layout;
 use places::Context;
+use statements::parts::skip_statement;
+use statements::returns::RETURN;
+use statements::returns::project_return;
+use statements::returns::return_mismatch;
 use writing::put;
 ghost use mathlib.Core.Option.{Option};
 ghost use Prim.Native.Nat.{ℕ, _≤_};
@@ -21,16 +21,11 @@ ghost use Rattle.layout.specs.Open.{pool-words};
 ghost use Rattle.pool_bodies.specs.StatementAt.{Body-stands};
 ghost use Rattle.places.specs.InContext.{AtContext};
 ghost use Rattle.outcomes.specs.Outcomes.{Comes-to};
-ghost use Rattle.bodies.specs.Made.{block-words, body-words-of};
+ghost use Rattle.statements.specs.Made.{block-words};
+ghost use Rattle.bodies.specs.Made.{body-words-of};
 ghost use Rattle.bodies.specs.Blocks.{AtBlock};
 
-pub mod assigns;
-pub mod lets;
-pub mod parts;
-pub mod returns;
 pub mod statement;
-pub mod step;
-pub mod value;
 
 // So many statements from `at` on.
 pub fn project_statements(

@@ -1,12 +1,12 @@
 // One statement that is no Return: those behind it are still to come.
 use answers::refusal::Refusal;
-use crate::assigns::project_assign;
-use crate::lets::project_let;
-use crate::step::ASSIGN;
-use crate::step::LET;
-use crate::step::Step;
 use layout::Layout;
+use lets::LET;
+use lets::Step;
+use lets::project_let;
 use places::Context;
+use statements::assigns::ASSIGN;
+use statements::assigns::project_assign;
 ghost use Prim.Native.Nat.{ℕ, _+_, _≤_};
 ghost use lib.ListN.{length};
 ghost use Rattle.rules.specs.Syntax.{Statement};
@@ -16,7 +16,7 @@ ghost use Rattle.layout.specs.Open.{pool-words};
 ghost use Rattle.pool_bodies.specs.StatementAt.{Statement-stands};
 ghost use Rattle.places.specs.InContext.{AtContext};
 ghost use Rattle.bodies.specs.Made.{Passing};
-ghost use Rattle.bodies.specs.Agree.{Steps};
+ghost use Rattle.lets.specs.Agree.{Steps};
 
 pub fn project_statement(
     image: &[u8],

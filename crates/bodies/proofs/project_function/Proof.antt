@@ -1,11 +1,12 @@
+-- `bodies::project_function` meets its contract. Assumes nothing.
+use borrow.Author.Needs.{needs}
 use native.Mathlib.Omega.{arith}
 use mathlib.Core.Path.{sym, ap, _∙_}
+use denote.Ref.{now}
 use Rattle.rules.specs.Refusal.{in-function}
 use Rattle.answers.specs.Refusals.{refusal-of}
 use Rattle.reading.specs.Sections.{length-section}
 use Rattle.bodies.specs.Whole.{is-external, is-block}
-use denote.Ref.{now}
-use borrow.Author.Needs.{needs}
 use Rattle.bodies.proofs.project_function.Statement.{statement}
 use Rattle.bodies.proofs.project_function.Tie as tie
 

@@ -4,6 +4,7 @@ use mathlib.Core.Path.{sym, ap, _∙_}
 use mathlib.Core.List.{List, _++_}
 use denote.Ref.{now}
 use Prim.Native.Nat.{ℕ}
+use native.Mathlib.Omega.{arith}
 use lib.ListN.{drop}
 use lib.Seq.{length-take-le}
 use Rattle.writing.specs.Prefix.{put-prefix}
@@ -17,10 +18,10 @@ put-spec =
     (tie.spec
     (λ c. written-far _ _ _ _ (c .if1 .taken))
     (λ c. search needs)
-    (λ c. sym (length-take-le _ _ (c .before .before .before .pre)))
+    (λ c. sym (length-take-le _ _ (omega (arith, c .before .before .before .pre))))
     (λ c κs. search needs)
     (λ c. search needs)
     (λ c.
-        let a = c .before .before .before .before .before .before .args in
-        let e = c .before .before .write .ensures in
-        written-one _ _ _ _ _ _ (e .0, ap (λ (l : List ℕ). l ++ drop (a .limit) (now (a .out))) (e .1) ∙ put-prefix (a .limit) (a .to) (a .w) (now (a .out)) (c .before .before .before .before .before .before .pre))))
+    let a = c .before .before .before .before .before .before .args in
+    let e = c .before .before .write .ensures in
+    written-one _ _ _ _ _ _ (e .0, ap (λ (l : List ℕ). l ++ drop (a .limit) (now (a .out))) (e .1) ∙ put-prefix (a .limit) (a .to) (a .w) (now (a .out)) (c .before .before .before .before .before .before .pre))))

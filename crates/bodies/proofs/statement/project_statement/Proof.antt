@@ -1,9 +1,10 @@
+-- `bodies::statement::project_statement` meets its contract. Assumes nothing.
+use borrow.Author.Needs.{needs}
 use mathlib.Core.Path.{refl, sym, ap, _∙_}
 use Rattle.rules.specs.Refusal.{in-function}
 use Rattle.answers.specs.Refusals.{refusal-of}
-use Rattle.bodies.specs.Agree.{Steps}
+use Rattle.lets.specs.Agree.{Steps}
 use Rattle.bodies.specs.Passes.{steps-assign, by-let, by-assign, by-other}
-use borrow.Author.Needs.{needs}
 use Rattle.bodies.proofs.statement.project_statement.Statement.{statement}
 use Rattle.bodies.proofs.statement.project_statement.Tie as tie
 

@@ -1,0 +1,24 @@
+-- What the rules make of a Let.
+use Prim.Native.Nat.{ℕ}
+use mathlib.Core.Bool.{not}
+use mathlib.Core.List.{List}
+use mathlib.Core.Option.{Option}
+use Rattle.rules.specs.Syntax.{ResolvedType, Expr}
+use Rattle.rules.specs.Options.{is-some}
+use Rattle.rules.specs.Refusal.{Result, ok, _>>=_, ensure, with-name}
+use Rattle.rules.specs.Infer.{PortableExpr, type-of, FunctionContext, find-last, infer-expr}
+use Rattle.rules.specs.Bodies.{PortableStatement, with-local}
+use Rattle.rules.specs.Output.{statement-words}
+
+-- a typed statement, and the context of those behind it
+abbrev pub Made : Type 0
+Made = PortableStatement × FunctionContext
+
+unfoldable pub made-let : FunctionContext → ℕ → Option ResolvedType → Expr → Result Made
+made-let c x t e = do
+  _ ← ensure (not (is-some (find-last x (c .locals)))) (with-name 18 (c .function) x)
+  value ← infer-expr c e t 3
+  ok (PortableStatement.let-local x (type-of value) value, with-local c x (type-of value))
+
+unfoldable pub let-words : ℕ → PortableExpr → List ℕ
+let-words x v = statement-words (PortableStatement.let-local x (type-of v) v)

@@ -1,0 +1,7 @@
+pub mod Made
+pub mod Coming
+pub mod Targets
+pub mod Wanted
+pub mod Values
+pub mod Returns
+pub mod Assigns
