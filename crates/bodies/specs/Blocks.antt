@@ -34,7 +34,7 @@ use Rattle.statements.specs.Made.{block-words}
 use Rattle.lets.specs.Made.{Made}
 use Rattle.bodies.specs.Made.{Passing}
 use Rattle.lets.specs.Agree.{counted, Step-agrees, Steps}
-use Rattle.statements.specs.Coming.{behind, comes-same, comes-err, comes-ok, comes-behind}
+use Rattle.outcomes.specs.Coming.{behind, comes-same, comes-err, comes-ok, comes-behind}
 use Rattle.bodies.specs.Passes.{follow, passing-words}
 
 -- statements of the pool, from `at` up to n

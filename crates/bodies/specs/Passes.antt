@@ -25,7 +25,7 @@ use Rattle.statements.specs.Made.{made-assign, assign-words, block-words}
 use Rattle.lets.specs.Made.{Made, made-let}
 use Rattle.bodies.specs.Made.{Passing}
 use Rattle.lets.specs.Agree.{counted, Step-agrees, Steps}
-use Rattle.statements.specs.Coming.{behind}
+use Rattle.outcomes.specs.Coming.{behind}
 
 -- a statement's words, then those of the statements in the context behind it
 unfoldable pub follow : Result Made → (FunctionContext → Result (List ℕ)) → Result (List ℕ)

@@ -13,7 +13,7 @@ use Rattle.rules.specs.Infer.{type-of, FunctionContext, find-last, place, infer
 use Rattle.rules.specs.Bodies.{PortableStatement, is-empty, with-local, assigned-field, project-return, project-statements, block-of}
 use Rattle.rules.specs.Output.{statement-words, each, listed}
 use Rattle.rules.specs.ReadBodies.{lets}
-use Rattle.laws.specs.Clash.{clash}
+use Rattle.rules.proofs.Clash.{clash}
 use Rattle.layout.specs.declared.Layout.{Layout}
 use Rattle.layout.specs.Open.{pool-words}
 use Rattle.answers.specs.declared.answer.Outcome.{Outcome}
@@ -24,7 +24,7 @@ use Rattle.pool_bodies.specs.StatementAt.{Body-stands}
 use Rattle.outcomes.specs.Outcomes.{Comes-to}
 use Rattle.statements.specs.Made.{block-words}
 use Rattle.bodies.specs.Made.{body-words-of}
-use Rattle.statements.specs.Coming.{behind, comes-same, comes-err, comes-behind}
+use Rattle.outcomes.specs.Coming.{behind, comes-same, comes-err, comes-behind}
 use Rattle.bodies.specs.Blocks.{Statements}
 
 none-behind : (ss : List Statement) (z : Refusal) (a : Unit {0}) → ensure (is-empty ss) z ≡ ok a → length ss ≡ 0

@@ -12,11 +12,12 @@ use Rattle.rules.specs.Syntax.{ResolvedType, run, Param}
 use Rattle.rules.specs.Reader.{many, maybe}
 use Rattle.rules.specs.ReadTypes.{resolved-type, param}
 use Rattle.rules.specs.Output.{each, listed}
-use Rattle.laws.specs.Good.{All}
-use Rattle.laws.specs.Exact.{maybe-exact}
-use Rattle.laws.specs.Types.{Stored, type-exact}
+use Rattle.rules.proofs.Good.{All}
+use Rattle.rules.proofs.Exact.{maybe-exact}
+use Rattle.rules.proofs.Types.{Stored, type-exact}
 use Rattle.laws.specs.DefinitionRuns.{typed-words, GoodParam}
-use Rattle.laws.specs.Definitions.{few-exact, param-exact}
+use Rattle.rules.proofs.Exact.{few-exact}
+use Rattle.laws.specs.Definitions.{param-exact}
 use Rattle.held.specs.declared.types.HeldType.{HeldType}
 use Rattle.held.specs.declared.types.MaybeType.{MaybeType}
 use Rattle.held.specs.Holds.{Holds, MaybeHolds}

@@ -26,7 +26,7 @@ use Rattle.stored.specs.Held.{Types}
 use Rattle.locals.specs.Rows as table
 use Rattle.locals.specs.Rows.{Rows}
 use Rattle.checking.specs.Details.{type-detail}
-use Rattle.checking.specs.Passing.{passed, refused, nothing, stopped, passed-then, both-then}
+use Rattle.outcomes.specs.Passing.{passed, refused, nothing, stopped, passed-then, both-then}
 
 -- one actual and one expected parameter: name, then type
 unfoldable pub check-param : ℕ → Param ResolvedType → Param ResolvedType → Result (Unit {0})

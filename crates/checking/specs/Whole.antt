@@ -21,7 +21,7 @@ use Rattle.pool_types.specs.ParamAt.{Param-at}
 use Rattle.pool_definitions.specs.DefinitionAt.{Function-stands}
 use Rattle.locals.specs.Rows.{Rows}
 use Rattle.checking.specs.Params.{rows-count, rows-few}
-use Rattle.checking.specs.Passing.{passed, refused, stopped, passed-then}
+use Rattle.outcomes.specs.Passing.{passed, refused, stopped, passed-then}
 
 -- an actual and an expected return
 unfoldable pub check-return : ℕ → Option ResolvedType → Option ResolvedType → Result (Unit {0})

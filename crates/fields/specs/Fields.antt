@@ -4,7 +4,7 @@ use mathlib.Core.Path.{_≡_}
 use mathlib.Core.List.{List}
 use mathlib.Core.Option.{Option, none, some}
 use Rattle.rules.specs.Syntax.{ResolvedType, run, Param}
-use Rattle.laws.specs.Types.{Stored}
+use Rattle.rules.proofs.Types.{Stored}
 use Rattle.reading.specs.Gives.{Counted}
 use Rattle.reading.specs.Stands.{Stands}
 use Rattle.pool_types.specs.TypeAt.{Type-stands}

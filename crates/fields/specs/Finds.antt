@@ -11,7 +11,7 @@ use Rattle.rules.specs.Syntax.{ResolvedType, run, Param}
 use Rattle.rules.specs.Options.{or-else}
 use Rattle.rules.specs.Infer.{find-last}
 use Rattle.rules.specs.ReadTypes.{resolved-type}
-use Rattle.laws.specs.Types.{Stored, type-exact}
+use Rattle.rules.proofs.Types.{Stored, type-exact}
 use Rattle.held.specs.declared.types.HeldType.{HeldType}
 use Rattle.held.specs.declared.types.MaybeType.{MaybeType}
 use Rattle.held.specs.Holds.{Holds, MaybeHolds}

@@ -8,7 +8,7 @@ use Rattle.rules.specs.Types.{BOOL, VOID, same-type}
 use Rattle.rules.specs.Options.{or}
 use Rattle.rules.specs.Refusal.{Refusal, Result, ok, err, _>>=_, or-refuse}
 use Rattle.rules.specs.Infer.{PortableExpr, PortableExprKind, typed, type-of, FunctionContext, is-arithmetic, type-mismatch, ensure-same-type, ended, binary-hint, infer-expr}
-use Rattle.laws.specs.Clash.{clash}
+use Rattle.rules.proofs.Clash.{clash}
 use Rattle.laws.specs.Same.{same-true}
 
 pub bind-ok : {A B : Type 0} (x : Result A) (g : A → Result B) (b : B) → (x >>= g) ≡ ok b → (a : A) × (x ≡ ok a) × (g a ≡ ok b)

@@ -9,7 +9,7 @@ use Rattle.rules.specs.Fits.{literal-own}
 use Rattle.rules.specs.Options.{or, or-else}
 use Rattle.rules.specs.Refusal.{Result, ok}
 use Rattle.rules.specs.Infer.{PortableExpr, PortableExprKind, typed, type-of, FunctionContext, is-arithmetic, place, place-type, expression-hint, infer-literal, binary-hint, infer-expr}
-use Rattle.laws.specs.Clash.{clash}
+use Rattle.rules.proofs.Clash.{clash}
 use Rattle.foretold.specs.Foretold.{foretold, left-type}
 use Rattle.foretold.specs.Accepted.{bind-ok, or-ok, ended-typed, ended-run, Operands, operands-of, value-of}
 

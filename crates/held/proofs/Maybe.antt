@@ -4,7 +4,7 @@ use mathlib.Core.Path.{_≡_, refl, sym, _∙_}
 use mathlib.Core.Bool.{true, false, false≢true}
 use mathlib.Core.Option.{Option, none, some}
 use Rattle.rules.specs.Syntax.{ResolvedType}
-use Rattle.laws.specs.Types.{run-injective}
+use Rattle.rules.proofs.Types.{run-injective}
 use Rattle.held.specs.declared.types.HeldType.{HeldType}
 use Rattle.held.specs.declared.types.MaybeType.{MaybeType}
 use Rattle.held.specs.Holds.{Holds, MaybeHolds}

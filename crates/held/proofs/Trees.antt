@@ -5,7 +5,7 @@ use mathlib.Core.List.{List, [], _∷_, _++_}
 use Rattle.rules.specs.Syntax.{ResolvedType, run}
 use Rattle.rules.specs.Kinds.{type-kind}
 use Rattle.rules.specs.declared.kinds.TypeKind.{TypeKind}
-use Rattle.laws.specs.Good.{Good}
+use Rattle.rules.proofs.Good.{Good}
 use Rattle.held.specs.declared.types.HeldType.{HeldType}
 use Rattle.held.specs.declared.types.Grown.{Grown}
 use Rattle.held.specs.Runs.{held-run, Runs, Grows}

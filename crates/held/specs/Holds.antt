@@ -7,7 +7,7 @@ use lib.ListN.{length}
 use lib.Dec.{leb}
 use Rattle.rules.specs.Syntax as Syntax
 use Rattle.rules.specs.Syntax.{ResolvedType}
-use Rattle.laws.specs.Good.{Good}
+use Rattle.rules.proofs.Good.{Good}
 use Rattle.held.specs.declared.types.HeldType.{HeldType}
 use Rattle.held.specs.declared.types.Grown.{Grown}
 use Rattle.held.specs.declared.types.MaybeType.{MaybeType}

@@ -2,7 +2,7 @@
 use Prim.Native.Nat.{ℕ}
 use mathlib.Core.Path.{_≡_, refl, subst}
 use Rattle.rules.specs.Substitute.{Counted, too-large, done, after}
-use Rattle.laws.specs.Clash.{clash}
+use Rattle.rules.proofs.Clash.{clash}
 
 pub record Counts {A : Type 0} (o : Counted A) (P : ℕ → A → Type 0) : Type 0 where
   pub holds : (v : ℕ) (a : A) → o ≡ done v a → P v a

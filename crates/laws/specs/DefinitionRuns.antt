@@ -4,19 +4,15 @@ use mathlib.Core.Path.{_≡_}
 use mathlib.Core.Bool.{true}
 use mathlib.Core.List.{List, [], _∷_, _++_, map}
 use lib.ListN.{length}
+use Rattle.rules.proofs.Exact.{Few}
 use Rattle.rules.specs.Words.{all-different}
 use Rattle.rules.specs.Syntax.{run, expr-run, Param, ImplFnDef, TraitReturn, TraitFnDef, MessageDef, GenericAliasDef, TraitDef, ImplDef}
 use Rattle.rules.specs.Output.{listed}
-use Rattle.laws.specs.Good.{All, AllOption}
-use Rattle.laws.specs.Exact.{optional}
-use Rattle.laws.specs.Types.{Stored}
+use Rattle.rules.proofs.Good.{All, AllOption}
+use Rattle.rules.proofs.Exact.{optional}
+use Rattle.rules.proofs.Types.{Stored}
 use Rattle.laws.specs.TypeExprs.{StoredExpr}
 use Rattle.laws.specs.Runs.{body-words, GoodBody}
-
--- at most so many, each good
-pub record Few {A : Type 0} (most : ℕ) (Good : A → Type 0) (xs : List A) : Type 0 where
-  pub few : length xs ≤ most
-  pub each : All Good xs
 
 -- a number is its own word
 abbrev pub own : ℕ → List ℕ

@@ -5,26 +5,22 @@ use mathlib.Core.List.{List, _∷_, _++_}
 use native.Mathlib.Omega.{arith}
 use lib.Dec.{eqb}
 use borrow.Author.Tests.{eqb-true, eqb-false}
+use Rattle.rules.proofs.Exact.{few-exact}
 use Rattle.rules.specs.Syntax.{TraitReturn}
 use Rattle.rules.specs.Reader.{Reader, many}
 use Rattle.rules.specs.ReadTypes.{param}
 use Rattle.rules.specs.ReadDefinitions.{message, generic-alias, trait-return, trait-function, trait, impl-function, implementation}
 use Rattle.rules.specs.Output.{listed}
-use Rattle.laws.specs.Reads.{Reads, give-reads, then-reads, end-reads, last-reads, word-reads, rule-reads, below-then}
-use Rattle.laws.specs.Gives as gives
-use Rattle.laws.specs.Exact.{Exact, below-exact, many-exact, maybe-exact}
-use Rattle.laws.specs.Types.{type-exact}
+use Rattle.rules.proofs.ReadBack.{Reads, give-reads, then-reads, end-reads, last-reads, word-reads, rule-reads, below-then}
+use Rattle.rules.proofs.Gives as gives
+use Rattle.rules.proofs.Exact.{Exact, below-exact, many-exact, maybe-exact}
+use Rattle.rules.proofs.Types.{type-exact}
 use Rattle.laws.specs.TypeExprs.{type-expr-exact}
 use Rattle.laws.specs.Statements.{body-exact}
-use Rattle.laws.specs.DefinitionRuns.{Few, own, typed-words, message-words, generic-alias-words, trait-return-words, trait-function-words, trait-words}
+use Rattle.rules.proofs.Exact.{Few}
+use Rattle.laws.specs.DefinitionRuns.{own, typed-words, message-words, generic-alias-words, trait-return-words, trait-function-words, trait-words}
 use Rattle.laws.specs.DefinitionRuns.{impl-function-words, implementation-words, GoodParam, GoodMessage, GoodAlias, GoodReturn, GoodTraitFunction, GoodTrait}
 use Rattle.laws.specs.DefinitionRuns.{GoodFunction, GoodImpl}
-
-pub few-exact : {A : Type 0} {r : Reader A} {words : A → List ℕ} {Good : A → Type 0} → Exact r words Good → (most : ℕ) → Exact (many most r) (listed words) (Few most Good)
-few-exact e most = record {
-  reads = λ xs g. many-exact e most .reads xs (g .few, g .each);
-  gives = gives.so (many-exact e most .gives) (λ xs ws h. record { is = h .is; good = record { few = h .good .0; each = h .good .1 } });
-}
 
 module _ (names : ℕ) where
   pub param-exact : {A : Type 0} {r : Reader A} {words : A → List ℕ} {Good : A → Type 0} → Exact r words Good → Exact (param names r) (typed-words words) (GoodParam names Good)

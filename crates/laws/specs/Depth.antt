@@ -10,7 +10,7 @@ use lib.Dec.{leb}
 use borrow.Author.Tests.{le-leb, lt-leb, leb-true, leb-false}
 use Rattle.rules.specs.Syntax.{ResolvedType, TypeExpr, run, Param, CompiledSchema}
 use Rattle.rules.specs.Substitute.{Counted, too-large, done, after, lookup-alias, substitute-depth, substitute-type}
-use Rattle.laws.specs.Clash.{clash}
+use Rattle.rules.proofs.Clash.{clash}
 use Rattle.laws.specs.Counts.{Counts, too-large-counts, after-counts, any-counts}
 use Rattle.laws.specs.Visits.{Rec, cut, short, plain-expand, plain-node, plain-depth, compared-once}
 

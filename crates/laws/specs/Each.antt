@@ -4,7 +4,7 @@ use mathlib.Core.List.{List, [], _∷_}
 use mathlib.Core.Option.{Option, none, some}
 use lib.ListN.{getElem?}
 use Rattle.rules.specs.Options.{then}
-use Rattle.laws.specs.Good.{All, AllOption}
+use Rattle.rules.proofs.Good.{All, AllOption}
 
 pub at-all : {A : Type 0} (P : A → Type 0) (xs : List A) (i : ℕ) → All P xs → AllOption P (getElem? xs i)
 at-all P [] i h = tt

@@ -4,23 +4,20 @@ use mathlib.Core.Path.{_≡_, refl, sym, ap, ap₂, subst}
 use mathlib.Core.List.{List, [], _∷_, _++_}
 use native.Mathlib.Omega.{arith}
 use borrow.Author.Tests.{lt-ltb}
+use Rattle.rules.proofs.Codes.{literal-kind}
 use Rattle.rules.specs.Syntax.{Expr, Exprs}
 use Rattle.rules.specs.Reader.{Reader, repeat}
 use Rattle.rules.specs.Kinds.{expr-kind}
 use Rattle.rules.specs.ReadBodies.{exprs, expr-node, expr-tree, expression}
 use Rattle.rules.specs.declared.kinds.ExprKind.{ExprKind}
-use Rattle.laws.specs.Codes.{ExprCode, expr-code}
-use Rattle.laws.specs.Reads.{Reads, give-reads, then-reads, last-reads, word-reads, below-then}
-use Rattle.laws.specs.Gives as gives
-use Rattle.laws.specs.Gives.{Gives}
-use Rattle.laws.specs.Exact as exact
-use Rattle.laws.specs.Exact.{Exact, Run}
-use Rattle.laws.specs.Types.{wide-then, wide-gives}
+use Rattle.rules.proofs.Codes.{ExprCode, expr-code}
+use Rattle.rules.proofs.ReadBack.{Reads, give-reads, then-reads, last-reads, word-reads, below-then}
+use Rattle.rules.proofs.Gives as gives
+use Rattle.rules.proofs.Gives.{Gives}
+use Rattle.rules.proofs.Exact as exact
+use Rattle.rules.proofs.Exact.{Exact, Run}
+use Rattle.rules.proofs.Types.{wide-then, wide-gives}
 use Rattle.laws.specs.Runs.{count, expr-words, exprs-words, nesting, nestings, GoodValue, GoodValues, Nested}
-
-pub literal-kind : (c : ℕ) → c < 3 → expr-kind c ≡ ExprKind.Literal
-unfolding expr-kind
-literal-kind c h = rw (lt-ltb c 3 h)
 
 module _ (names strings : ℕ) where
   at-kind : (f : ℕ) {c : ℕ} (k : ExprKind) {ws : List ℕ} {e : Expr} → expr-kind c ≡ k → Reads (expr-node names strings (expr-tree names strings f) k c) ws e

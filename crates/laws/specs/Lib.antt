@@ -1,11 +1,4 @@
-pub mod Clash
-pub mod Good
 pub mod Each
-pub mod Reads
-pub mod Gives
-pub mod Exact
-pub mod Codes
-pub mod Types
 pub mod Same
 pub mod TypeExprs
 pub mod Counts
@@ -20,6 +13,4 @@ pub mod Definitions
 pub mod GoodSchema
 pub mod Substitution
 pub mod Schema
-pub mod Typed
-pub mod TypedRuns
 pub mod MoreNames

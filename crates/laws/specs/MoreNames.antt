@@ -8,12 +8,12 @@ use Rattle.rules.specs.Signatures.{PortableSignature}
 use Rattle.rules.specs.Infer.{PortableExpr, PortableExprKind, typed}
 use Rattle.rules.specs.Bodies.{PortableStatement, PortableFunction}
 use Rattle.rules.specs.Output.{functions-words, signatures-words}
-use Rattle.laws.specs.Good.{Good}
+use Rattle.rules.proofs.Good.{Good}
 use Rattle.laws.specs.Each.{map-all, map-option}
-use Rattle.laws.specs.Types.{Stored}
-use Rattle.laws.specs.DefinitionRuns.{Few}
-use Rattle.laws.specs.Typed.{TypedValue, TypedKind, TypedNested, TypedStatement, TypedSignature, TypedFunction}
-use Rattle.laws.specs.TypedRuns as runs
+use Rattle.rules.proofs.Types.{Stored}
+use Rattle.rules.proofs.Exact.{Few}
+use Rattle.rules.proofs.Typed.{TypedValue, TypedKind, TypedNested, TypedStatement, TypedSignature, TypedFunction}
+use Rattle.rules.proofs.TypedRuns as runs
 
 few-more : {A : Type 0} {most : ℕ} {P Q : A → Type 0} → ((a : A) → P a → Q a) → (xs : List A) → Few most P xs → Few most Q xs
 few-more f xs h = record { few = h .few; each = map-all f xs (h .each) }

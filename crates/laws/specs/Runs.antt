@@ -5,9 +5,9 @@ use lib.ListN.{length}
 use Rattle.rules.specs.Syntax.{run, Expr, Exprs, Statement, FnBody}
 use Rattle.rules.specs.ReadBodies.{lets}
 use Rattle.rules.specs.Output.{listed}
-use Rattle.laws.specs.Good.{All, AllOption}
-use Rattle.laws.specs.Exact.{optional}
-use Rattle.laws.specs.Types.{Stored}
+use Rattle.rules.proofs.Good.{All, AllOption}
+use Rattle.rules.proofs.Exact.{optional}
+use Rattle.rules.proofs.Types.{Stored}
 
 abbrev pub count : Exprs → ℕ
 count Exprs.nil = 0

@@ -9,9 +9,9 @@ use borrow.Author.Tests.{eqb-true, eq-eqb}
 use Rattle.rules.specs.Words.{same}
 use Rattle.rules.specs.Syntax.{ResolvedType, run}
 use Rattle.rules.specs.Types.{same-type, return-words, same-return}
-use Rattle.laws.specs.Clash.{clash}
-use Rattle.laws.specs.Good.{Good, AllOption}
-use Rattle.laws.specs.Types.{run-injective}
+use Rattle.rules.proofs.Clash.{clash}
+use Rattle.rules.proofs.Good.{Good, AllOption}
+use Rattle.rules.proofs.Types.{run-injective}
 
 -- a test by comparing
 abbrev on-equal : Bool → Ordering → Bool

@@ -15,12 +15,12 @@ use Rattle.rules.specs.Kinds.{definition-kind}
 use Rattle.rules.specs.declared.kinds.DefinitionKind.{DefinitionKind}
 use Rattle.rules.specs.Image.{part, Trailer, good-trailer, whole-rows, name-width, string-width, definition-width, trailer, alias-at, name-row, string-row}
 use Rattle.rules.specs.Image.{definition-node, definition-row, rows, sections, schema, readable}
-use Rattle.laws.specs.Clash.{clash}
-use Rattle.laws.specs.Good.{All, AllOption}
-use Rattle.laws.specs.Gives as gives
-use Rattle.laws.specs.Gives.{Gives}
-use Rattle.laws.specs.Exact.{Exact}
-use Rattle.laws.specs.Types.{Stored, type-exact, within-true}
+use Rattle.rules.proofs.Clash.{clash}
+use Rattle.rules.proofs.Good.{All, AllOption}
+use Rattle.rules.proofs.Gives as gives
+use Rattle.rules.proofs.Gives.{Gives}
+use Rattle.rules.proofs.Exact.{Exact}
+use Rattle.rules.proofs.Types.{Stored, type-exact, within-true}
 use Rattle.laws.specs.Definitions.{message-exact, generic-alias-exact, trait-exact, implementation-exact}
 use Rattle.laws.specs.GoodSchema.{most-words, GoodName, GoodDefinition, GoodSchema}
 

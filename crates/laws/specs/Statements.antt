@@ -10,12 +10,12 @@ use Rattle.rules.specs.Kinds.{statement-kind}
 use Rattle.rules.specs.ReadBodies.{lets, statement-node, statement, block, body}
 use Rattle.rules.specs.Output.{listed}
 use Rattle.rules.specs.declared.kinds.StatementKind.{StatementKind}
-use Rattle.laws.specs.Codes.{StatementCode, statement-code}
-use Rattle.laws.specs.Reads.{Reads, give-reads, then-reads, end-reads, last-reads, word-reads, rule-reads, below-then}
-use Rattle.laws.specs.Gives as gives
-use Rattle.laws.specs.Gives.{Gives}
-use Rattle.laws.specs.Exact.{Exact, Run, many-exact, maybe-exact}
-use Rattle.laws.specs.Types.{type-exact}
+use Rattle.rules.proofs.Codes.{StatementCode, statement-code}
+use Rattle.rules.proofs.ReadBack.{Reads, give-reads, then-reads, end-reads, last-reads, word-reads, rule-reads, below-then}
+use Rattle.rules.proofs.Gives as gives
+use Rattle.rules.proofs.Gives.{Gives}
+use Rattle.rules.proofs.Exact.{Exact, Run, many-exact, maybe-exact}
+use Rattle.rules.proofs.Types.{type-exact}
 use Rattle.laws.specs.Runs.{stored-statement-words, body-words, GoodStatement, GoodBody}
 use Rattle.laws.specs.Expressions.{expression-exact}
 

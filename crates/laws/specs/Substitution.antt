@@ -15,7 +15,7 @@ use Rattle.rules.specs.Options.{then, or, or-else}
 use Rattle.rules.specs.Types.{POISON}
 use Rattle.rules.specs.Substitute.{Counted, too-large, done, bounded, primitive, find-param, one-parameter, lookup, lookup-primitive-alias, lookup-alias}
 use Rattle.rules.specs.Substitute.{lookup-qualified, named-or-poison, resolve-name, expand, substitute-node, substitute-depth, substitute-type}
-use Rattle.laws.specs.Good.{All, AllOption, Good, GoodExpr}
+use Rattle.rules.proofs.Good.{All, AllOption, Good, GoodExpr}
 use Rattle.laws.specs.Counts.{Counts, too-large-counts, done-counts, after-counts, any-counts}
 use Rattle.laws.specs.Each.{at-all, then-all, then-any}
 use Rattle.laws.specs.Visits.{Rec}

@@ -9,14 +9,14 @@ use Rattle.rules.specs.Reader.{Reader}
 use Rattle.rules.specs.Kinds.{type-kind}
 use Rattle.rules.specs.ReadTypes.{bits-inline, type-expr-node, type-expr-tree, type-expr}
 use Rattle.rules.specs.declared.kinds.TypeKind.{TypeKind}
-use Rattle.laws.specs.Good.{Good, IsLeaf, GoodExpr, depth-expr}
-use Rattle.laws.specs.Codes.{TypeCode, type-code}
-use Rattle.laws.specs.Reads.{Reads, give-reads, then-reads, last-reads, word-reads, below-then}
-use Rattle.laws.specs.Gives as gives
-use Rattle.laws.specs.Gives.{Gives}
-use Rattle.laws.specs.Exact as exact
-use Rattle.laws.specs.Exact.{Exact, Run, sized-exact}
-use Rattle.laws.specs.Types.{sub-reads, wide-then, sub-gives, wide-gives, bits-exact}
+use Rattle.rules.proofs.Good.{Good, IsLeaf, GoodExpr, depth-expr}
+use Rattle.rules.proofs.Codes.{TypeCode, type-code}
+use Rattle.rules.proofs.ReadBack.{Reads, give-reads, then-reads, last-reads, word-reads, below-then}
+use Rattle.rules.proofs.Gives as gives
+use Rattle.rules.proofs.Gives.{Gives}
+use Rattle.rules.proofs.Exact as exact
+use Rattle.rules.proofs.Exact.{Exact, Run, sized-exact}
+use Rattle.rules.proofs.Types.{sub-reads, wide-then, sub-gives, wide-gives, bits-exact}
 
 -- a good expression, so deep
 pub record DeepExpr (names f : ℕ) (e : TypeExpr) : Type 0 where

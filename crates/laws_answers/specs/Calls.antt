@@ -15,11 +15,12 @@ use Rattle.rules.specs.Bodies.{PortableFunction}
 use Rattle.rules.specs.Project.{as-message, as-implementation, no-repeat, no-stranger, find-implementation, target-message, project-impl, expected-signatures}
 use Rattle.rules.specs.Output.{each, listed, functions-words, signature-words, signatures-words}
 use Rattle.rules.specs.Answer.{project-call, signatures-call}
-use Rattle.laws.specs.Good.{All, AllOption}
+use Rattle.rules.proofs.Good.{All, AllOption}
 use Rattle.laws.specs.Each.{at-all, then-all, then-any}
-use Rattle.laws.specs.DefinitionRuns.{Few, impl-function-words, implementation-words, GoodMessage, GoodTrait, GoodImpl}
+use Rattle.rules.proofs.Exact.{Few}
+use Rattle.laws.specs.DefinitionRuns.{impl-function-words, implementation-words, GoodMessage, GoodTrait, GoodImpl}
 use Rattle.laws.specs.GoodSchema.{most-words, GoodDefinition, GoodSchema}
-use Rattle.laws.specs.Typed.{TypedFunction, TypedSignature}
+use Rattle.rules.proofs.Typed.{TypedFunction, TypedSignature}
 use Rattle.laws_answers.specs.Ends as ends
 use Rattle.laws_answers.specs.Ends.{Ends, Short}
 use Rattle.laws_answers.specs.Expected.{function-visits, expected-ends}

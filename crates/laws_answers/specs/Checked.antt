@@ -9,10 +9,10 @@ use Rattle.rules.specs.Syntax.{ResolvedType, run, Param, ImplFnDef}
 use Rattle.rules.specs.Types.{same-type, same-return, return-words, normalize-return}
 use Rattle.rules.specs.Signatures.{PortableSignature}
 use Rattle.rules.specs.CheckSignature.{check-params, check-signature}
-use Rattle.laws.specs.Good.{All, AllOption}
-use Rattle.laws.specs.Types.{Stored}
+use Rattle.rules.proofs.Good.{All, AllOption}
+use Rattle.rules.proofs.Types.{Stored}
 use Rattle.laws.specs.DefinitionRuns.{GoodParam, GoodFunction}
-use Rattle.laws.specs.Typed.{TypedParam, TypedSignature}
+use Rattle.rules.proofs.Typed.{TypedParam, TypedSignature}
 use Rattle.laws_answers.specs.Ends as ends
 use Rattle.laws_answers.specs.Ends.{Ends, Short}
 use Rattle.laws_answers.specs.Expected.{normalize-stored}

@@ -5,8 +5,8 @@ use mathlib.Core.Bool.{Bool, true, false}
 use mathlib.Core.Option.{Option, none, some}
 use lib.ListN.{length}
 use Rattle.rules.specs.Refusal.{Refusal, Result, ok, err, _>>=_, ensure, or-refuse}
-use Rattle.laws.specs.Clash.{clash}
-use Rattle.laws.specs.Good.{AllOption}
+use Rattle.rules.proofs.Clash.{clash}
+use Rattle.rules.proofs.Good.{AllOption}
 
 -- 576 bytes
 abbrev pub most-detail : ℕ

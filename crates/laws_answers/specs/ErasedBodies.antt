@@ -12,8 +12,8 @@ use Rattle.rules.specs.CheckSignature.{check-signature}
 use Rattle.rules.specs.Infer.{type-of, FunctionContext, find-last, Place, of-local, of-self, of-field, nowhere, place}
 use Rattle.rules.specs.Bodies.{PortableFunction, is-empty, with-local, project-return, assigned-field, project-statements, block-of, project-function}
 use Rattle.rules.specs.Project.{find-function, no-repeat, no-stranger, target-message, project-list, project-impl}
-use Rattle.laws.specs.Clash.{clash}
-use Rattle.laws.specs.Good.{All}
+use Rattle.rules.proofs.Clash.{clash}
+use Rattle.rules.proofs.Good.{All}
 use Rattle.laws_answers.specs.Ends as ends
 use Rattle.laws_answers.specs.Ends.{Ends, Any}
 use Rattle.laws_answers.specs.Erased.{erased-option, erased-statement, untyped, target-field, any-ends, infer-erased}

@@ -12,14 +12,14 @@ use Rattle.rules.specs.Types.{normalize-return, same-type, VOID}
 use Rattle.rules.specs.Substitute.{Counted, too-large, done, view, substitute-type}
 use Rattle.rules.specs.Signatures.{PortableSignature, poisoned-params, poisoned-return, resolve-params, resolve-return, resolve-signature, expected-function}
 use Rattle.rules.specs.Signatures.{expected-list, expected-functions}
-use Rattle.laws.specs.Good.{All, AllOption, Good}
-use Rattle.laws.specs.Types.{Stored}
+use Rattle.rules.proofs.Good.{All, AllOption, Good}
+use Rattle.rules.proofs.Types.{Stored}
 use Rattle.laws.specs.TypeExprs.{StoredExpr}
 use Rattle.laws.specs.DefinitionRuns.{GoodParam, GoodReturn, GoodTraitFunction, GoodTrait, GoodImpl}
 use Rattle.laws.specs.GoodSchema.{GoodSchema}
 use Rattle.laws.specs.Counts.{Counts, done-counts, after-counts}
 use Rattle.laws.specs.Substitution.{substitute-good}
-use Rattle.laws.specs.Typed.{TypedParam, TypedSignature}
+use Rattle.rules.proofs.Typed.{TypedParam, TypedSignature}
 use Rattle.laws_answers.specs.Ends as ends
 use Rattle.laws_answers.specs.Ends.{Ends, Short}
 

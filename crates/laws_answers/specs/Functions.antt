@@ -14,12 +14,13 @@ use Rattle.rules.specs.Signatures.{PortableSignature}
 use Rattle.rules.specs.Bodies.{PortableFunction, block-of, project-function}
 use Rattle.rules.specs.Project.{find-function, project-list}
 use Rattle.rules.specs.Output.{each, listed, param-words, signature-words, statement-words, function-words}
-use Rattle.laws.specs.Good.{All, AllOption}
-use Rattle.laws.specs.Exact.{optional}
-use Rattle.laws.specs.Types.{Stored}
+use Rattle.rules.proofs.Good.{All, AllOption}
+use Rattle.rules.proofs.Exact.{optional}
+use Rattle.rules.proofs.Types.{Stored}
 use Rattle.laws.specs.Runs.{stored-statement-words, body-words, GoodBody, GoodStatement}
-use Rattle.laws.specs.DefinitionRuns.{Few, typed-words, GoodParam, GoodMessage, GoodFunction, GoodImpl, impl-function-words}
-use Rattle.laws.specs.Typed.{TypedParam, TypedSignature, TypedFunction}
+use Rattle.rules.proofs.Exact.{Few}
+use Rattle.laws.specs.DefinitionRuns.{typed-words, GoodParam, GoodMessage, GoodFunction, GoodImpl, impl-function-words}
+use Rattle.rules.proofs.Typed.{TypedParam, TypedSignature, TypedFunction}
 use Rattle.laws_answers.specs.Ends as ends
 use Rattle.laws_answers.specs.Ends.{Ends, Short}
 use Rattle.laws_answers.specs.Values.{growth}

@@ -10,11 +10,11 @@ use Rattle.rules.specs.Options.{is-some}
 use Rattle.rules.specs.Infer.{PortableExpr, type-of, FunctionContext, find-last, Place, of-local, of-self, of-field, nowhere, place}
 use Rattle.rules.specs.Bodies.{PortableStatement, is-empty, with-local, project-return, assigned-field, project-statements}
 use Rattle.rules.specs.Output.{each, value-words, statement-words}
-use Rattle.laws.specs.Good.{All, AllOption}
-use Rattle.laws.specs.Exact.{optional}
-use Rattle.laws.specs.Types.{Stored}
+use Rattle.rules.proofs.Good.{All, AllOption}
+use Rattle.rules.proofs.Exact.{optional}
+use Rattle.rules.proofs.Types.{Stored}
 use Rattle.laws.specs.Runs.{expr-words, stored-statement-words, GoodStatement}
-use Rattle.laws.specs.Typed.{TypedNested, TypedStatement, TypedParam}
+use Rattle.rules.proofs.Typed.{TypedNested, TypedStatement, TypedParam}
 use Rattle.laws_answers.specs.Ends as ends
 use Rattle.laws_answers.specs.Ends.{Ends, Short}
 use Rattle.laws_answers.specs.Values.{growth, GoodContext, find-last-stored, type-of-stored, infer-ends}

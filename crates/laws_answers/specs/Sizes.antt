@@ -12,7 +12,7 @@ use Rattle.rules.specs.Words.{member, all-different}
 use Rattle.rules.specs.Syntax.{ImplFnDef}
 use Rattle.rules.specs.Project.{find-function}
 use Rattle.rules.specs.Output.{each}
-use Rattle.laws.specs.Clash.{clash}
+use Rattle.rules.proofs.Clash.{clash}
 use Rattle.laws.specs.DefinitionRuns.{impl-function-words}
 
 abbrev pub size : ImplFnDef → ℕ

@@ -17,10 +17,10 @@ use Rattle.rules.specs.Infer.{PortableExpr, PortableExprKind, typed, type-of, F
 use Rattle.rules.specs.Infer.{is-arithmetic, operand-allowed, unary-allowed, place-type, expression-hint, type-mismatch, ensure-same-type, ended, infer-literal}
 use Rattle.rules.specs.Infer.{binary-hint, infer-expr}
 use Rattle.rules.specs.Output.{value-words, kind-words}
-use Rattle.laws.specs.Good.{All, AllOption}
-use Rattle.laws.specs.Types.{Stored}
+use Rattle.rules.proofs.Good.{All, AllOption}
+use Rattle.rules.proofs.Types.{Stored}
 use Rattle.laws.specs.Runs.{expr-words, nesting, GoodValue}
-use Rattle.laws.specs.Typed.{typed-nesting, kind-nesting, TypedValue, TypedKind, TypedParam}
+use Rattle.rules.proofs.Typed.{typed-nesting, kind-nesting, TypedValue, TypedKind, TypedParam}
 use Rattle.laws_answers.specs.Ends as ends
 use Rattle.laws_answers.specs.Ends.{Ends, Short}
 

@@ -11,7 +11,7 @@ use Rattle.rules.specs.Fits.{literal-own}
 use Rattle.rules.specs.Refusal.{Result, _>>=_}
 use Rattle.rules.specs.Infer.{PortableExpr, PortableExprKind, FunctionContext, type-mismatch, ended, infer-literal, infer-expr}
 use Rattle.laws.specs.Runs.{expr-words}
-use Rattle.laws.specs.Clash.{clash}
+use Rattle.rules.proofs.Clash.{clash}
 use Rattle.held.specs.declared.types.HeldType.{HeldType}
 use Rattle.held.specs.declared.types.MaybeType.{MaybeType}
 use Rattle.held.specs.Runs.{Runs}

@@ -13,7 +13,7 @@ use Rattle.rules.specs.Kinds.{type-kind}
 use Rattle.rules.specs.Options.{then}
 use Rattle.rules.specs.Substitute.{number, primitive}
 use Rattle.rules.specs.declared.kinds.TypeKind.{TypeKind}
-use Rattle.laws.specs.Types.{Stored}
+use Rattle.rules.proofs.Types.{Stored}
 use Rattle.reading.specs.Gives.{of}
 use Rattle.reading.specs.Stands.{Stands}
 use Rattle.layout.specs.Open.{AliasStands}

@@ -11,7 +11,7 @@ use Rattle.rules.specs.Syntax.{ResolvedType, Expr}
 use Rattle.rules.specs.Kinds.{expr-kind}
 use Rattle.rules.specs.Options.{or-else}
 use Rattle.rules.specs.Infer.{FunctionContext, find-last, Place, of-local, of-self, of-field, nowhere, field-of, place, place-type, expression-hint}
-use Rattle.laws.specs.Clash.{clash}
+use Rattle.rules.proofs.Clash.{clash}
 use Rattle.held.specs.declared.types.MaybeType.{MaybeType}
 use Rattle.held.specs.Holds.{MaybeHolds}
 use Rattle.pool_bodies.specs.ExprAt.{value-shape}

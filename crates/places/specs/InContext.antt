@@ -4,7 +4,7 @@ use mathlib.Core.Path.{_≡_}
 use mathlib.Core.List.{List}
 use Rattle.rules.specs.Syntax.{run}
 use Rattle.rules.specs.Infer.{FunctionContext}
-use Rattle.laws.specs.Types.{Stored}
+use Rattle.rules.proofs.Types.{Stored}
 use Rattle.reading.specs.Stands.{Stands}
 use Rattle.layout.specs.declared.Layout.{Layout}
 use Rattle.layout.specs.Open.{pool-words}

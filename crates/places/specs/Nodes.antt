@@ -8,7 +8,7 @@ use Rattle.rules.specs.Syntax.{Expr, Exprs}
 use Rattle.rules.specs.Kinds.{expr-kind}
 use Rattle.rules.specs.declared.kinds.ExprKind.{ExprKind}
 use Rattle.laws.specs.Runs.{expr-words, nesting}
-use Rattle.laws.specs.Expressions.{literal-kind}
+use Rattle.rules.proofs.Codes.{literal-kind}
 use Rattle.reading.specs.Stands.{Stands}
 use Rattle.pool_bodies.specs.ExprAt.{value-shape}
 use Rattle.stored.specs.Heads.{head, tail, inside, first, second}

@@ -8,7 +8,7 @@ use Rattle.rules.specs.Reader.{Reader, _>>=_}
 use Rattle.rules.specs.Kinds.{type-kind}
 use Rattle.rules.specs.ReadTypes.{sub-byte, wide, bits-inline, type-node, type-tree, resolved-type}
 use Rattle.rules.specs.declared.kinds.TypeKind.{TypeKind}
-use Rattle.laws.specs.Types.{Stored, within-true, type-exact}
+use Rattle.rules.proofs.Types.{Stored, within-true, type-exact}
 use Rattle.reading.specs.Gives.{Gives, Word, Below-at, Counted, then, given, failed, so-then, rule-then, word-then, assoc, give-then, below-then, below-gives, many-gives, sized-gives}
 use Rattle.reading.specs.Stands.{Held, held-gives}
 

@@ -23,7 +23,7 @@ use Rattle.traits.specs.declared.find.Found.{Found}
 use Rattle.traits.specs.Found.{Finds}
 use Rattle.traits.proofs.Has.{Has, has, lacks}
 use Rattle.bodies.specs.Made.{body-words-of}
-use Rattle.statements.specs.Coming.{comes-same, comes-err, comes-behind}
+use Rattle.outcomes.specs.Coming.{comes-same, comes-err, comes-behind}
 use Rattle.functions.specs.Functions.{Function-here}
 use Rattle.projection.specs.declared.parts.Parts.{Parts}
 use Rattle.projection.specs.Steps.{one-words}

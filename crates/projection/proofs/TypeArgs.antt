@@ -8,9 +8,9 @@ use Rattle.rules.specs.Syntax.{ResolvedType, run}
 use Rattle.rules.specs.Reader.{many}
 use Rattle.rules.specs.ReadTypes.{resolved-type}
 use Rattle.rules.specs.Output.{each, listed}
-use Rattle.laws.specs.Good.{All}
-use Rattle.laws.specs.Types.{Stored, type-exact}
-use Rattle.laws.specs.Definitions.{few-exact}
+use Rattle.rules.proofs.Good.{All}
+use Rattle.rules.proofs.Types.{Stored, type-exact}
+use Rattle.rules.proofs.Exact.{few-exact}
 use Rattle.reading.specs.declared.Checked.{Checked}
 use Rattle.reading.specs.Verdict.{Says}
 use Rattle.reading.specs.Gives.{Row, Counted}

@@ -28,7 +28,7 @@ use Rattle.layout.specs.Opens.{Opens}
 use Rattle.laws_answers.specs.Answers.{project-bound}
 use Rattle.outcomes.specs.Outcomes.{Passes-agrees, Passes, Comes-to}
 use Rattle.expected.specs.Asked.{in-words}
-use Rattle.statements.specs.Coming.{came-err, came-ok}
+use Rattle.outcomes.specs.Coming.{came-err, came-ok}
 use Rattle.projection.specs.Steps.{list-words, tested-words, found-words}
 use Rattle.projection.specs.Asked.{Few}
 use Rattle.projection.proofs.Resolved.{resolved, first, none-left}

@@ -14,4 +14,5 @@ pub mod SmallSignatures
 pub mod SmallFunctions
 pub mod Outputs
 pub mod Promises
+pub mod Calls
 pub mod Wrong

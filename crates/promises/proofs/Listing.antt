@@ -13,8 +13,8 @@ use Rattle.rules.specs.Signatures.{PortableSignature}
 use Rattle.rules.specs.CheckSignature.{check-signature}
 use Rattle.rules.specs.Bodies.{PortableFunction, block-of, project-statements, project-function}
 use Rattle.rules.specs.Project.{no-stranger, find-function, project-list, project-impl}
-use Rattle.laws.specs.Clash.{clash}
-use Rattle.laws.specs.Good.{All}
+use Rattle.rules.proofs.Clash.{clash}
+use Rattle.rules.proofs.Good.{All}
 use Rattle.laws_answers.specs.Ends as ends
 use Rattle.laws_answers.specs.Ends.{Ends, Any}
 use Rattle.laws_answers.specs.Erased.{any-ends}

@@ -13,7 +13,7 @@ use Rattle.rules.specs.Refusal.{Result, ok, _>>=_, ensure}
 use Rattle.rules.specs.Signatures.{PortableSignature, find-trait, expected-functions}
 use Rattle.rules.specs.Bodies.{PortableFunction, project-function}
 use Rattle.rules.specs.Project.{no-repeat, no-stranger, find-function, project-list, target-message, project-impl}
-use Rattle.laws.specs.Clash.{clash}
+use Rattle.rules.proofs.Clash.{clash}
 use Rattle.promises.specs.Order.{Reordered, same, swap, keep, both, Relisted}
 use Rattle.promises.proofs.Results.{ensured, found, is-there}
 use Rattle.promises.proofs.Parts.{parts, whole}

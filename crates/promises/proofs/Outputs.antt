@@ -12,12 +12,12 @@ use Rattle.rules.specs.Bodies.{PortableFunction}
 use Rattle.rules.specs.Project.{as-implementation, find-implementation}
 use Rattle.rules.specs.Output.{functions-words}
 use Rattle.words.specs.Words.{word4-le}
-use Rattle.laws.specs.Good.{AllOption, Below}
+use Rattle.rules.proofs.Good.{AllOption, Below}
 use Rattle.laws.specs.Each.{at-all, then-all}
-use Rattle.laws.specs.DefinitionRuns.{Few}
+use Rattle.rules.proofs.Exact.{Few}
 use Rattle.laws.specs.GoodSchema.{GoodDefinition, GoodSchema}
 use Rattle.laws.specs.Schema.{readable-good}
-use Rattle.laws.specs.Typed.{TypedFunction}
+use Rattle.rules.proofs.Typed.{TypedFunction}
 use Rattle.laws.specs.MoreNames.{functions-prefix-free}
 use Rattle.laws_answers.specs.Calls.{Impl, project-ends}
 use Rattle.promises.specs.Projects.{Bytes, Projects}

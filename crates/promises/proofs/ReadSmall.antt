@@ -14,12 +14,12 @@ use Rattle.rules.specs.Reader.{Rest, rest-at, Reader, from, repeat, times}
 use Rattle.rules.specs.Kinds.{definition-kind}
 use Rattle.rules.specs.declared.kinds.DefinitionKind.{DefinitionKind}
 use Rattle.rules.specs.Image.{part, Trailer, trailer, alias-at, name-row, string-row, definition-node, definition-row, rows, sections, schema, readable}
-use Rattle.laws.specs.Clash.{clash}
-use Rattle.laws.specs.Good.{All, AllOption, Below}
-use Rattle.laws.specs.Gives as gives
-use Rattle.laws.specs.Gives.{Gives}
-use Rattle.laws.specs.Exact.{Exact}
-use Rattle.laws.specs.Types.{type-exact}
+use Rattle.rules.proofs.Clash.{clash}
+use Rattle.rules.proofs.Good.{All, AllOption, Below}
+use Rattle.rules.proofs.Gives as gives
+use Rattle.rules.proofs.Gives.{Gives}
+use Rattle.rules.proofs.Exact.{Exact}
+use Rattle.rules.proofs.Types.{type-exact}
 use Rattle.laws.specs.Definitions.{message-exact, generic-alias-exact, trait-exact, implementation-exact}
 use Rattle.laws.specs.GoodSchema.{GoodName}
 use Rattle.laws.specs.Schema.{readable-good}

@@ -3,7 +3,7 @@ use mathlib.Core.Path.{_≡_, refl}
 use mathlib.Core.Bool.{Bool, true, false}
 use mathlib.Core.Option.{Option, none, some}
 use Rattle.rules.specs.Refusal.{Refusal, Result, ok, err, _>>=_, ensure, or-refuse}
-use Rattle.laws.specs.Clash.{clash}
+use Rattle.rules.proofs.Clash.{clash}
 
 -- a refusal is no acceptance
 pub no-ok : {A : Type 0} (r : Refusal) (a : A) → err r ≡ ok a → ⊥

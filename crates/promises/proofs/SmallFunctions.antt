@@ -16,12 +16,13 @@ use Rattle.rules.specs.CheckSignature.{check-signature}
 use Rattle.rules.specs.Bodies.{PortableFunction, block-of, project-function}
 use Rattle.rules.specs.Project.{as-message, as-implementation, no-repeat, no-stranger, find-function, project-list, find-implementation, target-message, project-impl}
 use Rattle.rules.specs.Output.{listed, param-words, signature-words, statement-words, function-words, functions-words}
-use Rattle.laws.specs.Good.{All, AllOption}
+use Rattle.rules.proofs.Good.{All, AllOption}
 use Rattle.laws.specs.Each.{at-all, then-all, then-any}
-use Rattle.laws.specs.Exact.{optional}
+use Rattle.rules.proofs.Exact.{optional}
 use Rattle.laws.specs.Runs.{stored-statement-words, body-words}
-use Rattle.laws.specs.DefinitionRuns.{Few, typed-words, message-words, trait-words, impl-function-words, implementation-words}
-use Rattle.laws.specs.Typed.{TypedFunction}
+use Rattle.rules.proofs.Exact.{Few}
+use Rattle.laws.specs.DefinitionRuns.{typed-words, message-words, trait-words, impl-function-words, implementation-words}
+use Rattle.rules.proofs.Typed.{TypedFunction}
 use Rattle.laws_answers.specs.Ends as ends
 use Rattle.laws_answers.specs.Ends.{Ends, Any}
 use Rattle.laws_answers.specs.Erased.{any-ends}

@@ -3,7 +3,7 @@ use Prim.Native.Nat.{_<_}
 use mathlib.Core.Option.{Option, none, some}
 use Rattle.rules.specs.Syntax.{ResolvedType, run, Param, Name, TypeDef, CompiledSchema}
 use Rattle.rules.specs.Options.{or-else}
-use Rattle.laws.specs.Good.{All, AllOption}
+use Rattle.rules.proofs.Good.{All, AllOption}
 use Rattle.laws.specs.DefinitionRuns.{typed-words, message-words, generic-alias-words, trait-words, implementation-words}
 use Rattle.promises.proofs.Small.{WORD, Small}
 

@@ -11,7 +11,7 @@ use Rattle.rules.specs.Fits.{literal-fits, literal-own}
 use Rattle.rules.specs.Refusal.{Result, ok}
 use Rattle.rules.specs.Infer.{PortableExpr, PortableExprKind, typed, type-of, FunctionContext, find-last, Place, of-local, of-self, of-field, nowhere, field-of, place, is-arithmetic, operand-allowed, unary-allowed, place-type, expression-hint, type-mismatch, ensure-same-type, ended, infer-literal, binary-hint, infer-expr}
 use Rattle.rules.specs.Output.{value-words, kind-words}
-use Rattle.laws.specs.Good.{All, AllOption}
+use Rattle.rules.proofs.Good.{All, AllOption}
 use Rattle.laws.specs.Runs.{expr-words}
 use Rattle.laws_answers.specs.Ends as ends
 use Rattle.laws_answers.specs.Ends.{Ends, Any}

@@ -12,7 +12,7 @@ use Rattle.rules.specs.Options.{then, or, or-else}
 use Rattle.rules.specs.Types.{POISON}
 use Rattle.rules.specs.Substitute.{Counted, primitive, number, definition-of, find-text, find-param, one-parameter, lookup, lookup-primitive-alias, lookup-alias, lookup-qualified, named-or-poison, resolve-name, expand, substitute-node, substitute-depth, substitute-type}
 use Rattle.rules.specs.Output.{listed}
-use Rattle.laws.specs.Good.{All, AllOption}
+use Rattle.rules.proofs.Good.{All, AllOption}
 use Rattle.laws.specs.Each.{at-all, then-all, then-any}
 use Rattle.laws.specs.DefinitionRuns.{own, generic-alias-words}
 use Rattle.laws.specs.Counts.{Counts, too-large-counts, after-counts}

@@ -7,8 +7,8 @@ use native.Mathlib.Omega.{arith}
 use lib.ListN.{length, drop, length-append, length-drop}
 use lib.Seq.{drop-drop, drop-at}
 use Rattle.rules.specs.Reader.{Rest, rest-at, Reader}
-use Rattle.laws.specs.Exact as exact
-use Rattle.laws.specs.Exact.{Exact}
+use Rattle.rules.proofs.Exact as exact
+use Rattle.rules.proofs.Exact.{Exact}
 use Rattle.reading.specs.Gives.{Yields, Gives, so-then, both}
 
 -- the words of a run stand at `at` and end before n

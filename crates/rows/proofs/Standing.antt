@@ -14,7 +14,7 @@ use Rattle.rules.specs.Reader.{Rest, rest-at, Reader, _>>=_, give, rule, from}
 use Rattle.rules.specs.Kinds.{definition-kind}
 use Rattle.rules.specs.Image.{alias-at, name-row, string-row, definition-node, definition-row}
 use Rattle.rules.specs.declared.kinds.DefinitionKind.{DefinitionKind}
-use Rattle.laws.specs.Types.{type-exact}
+use Rattle.rules.proofs.Types.{type-exact}
 use Rattle.laws.specs.Definitions.{message-exact, generic-alias-exact, trait-exact, implementation-exact}
 use Rattle.reading.specs.Gives as gives
 use Rattle.reading.specs.Gives.{Yields, Gives, Row}

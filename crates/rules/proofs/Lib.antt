@@ -1,1 +1,10 @@
 pub mod Edges
+pub mod Clash
+pub mod Good
+pub mod ReadBack
+pub mod Gives
+pub mod Exact
+pub mod Codes
+pub mod Types
+pub mod Typed
+pub mod TypedRuns

@@ -74,7 +74,7 @@ optional-alias = record {
 }
 
 -- the whole case: texts, names, pool, definitions, trailer
-abbrev whole-image : List ℕ
+abbrev pub whole-image : List ℕ
 whole-image =
     (103 ∷ 101 ∷ 116 ∷ 71 ∷ 77 ∷ [])
     ++ bytes-of (0 ∷ 3 ∷ NONE ∷ NONE ∷ 3 ∷ 1 ∷ 1 ∷ NONE ∷ 4 ∷ 1 ∷ 0 ∷ NONE

@@ -4,7 +4,7 @@ use mathlib.Core.Path.{_≡_}
 use mathlib.Core.List.{List, [], _∷_}
 use lib.ListN.{length, getD}
 use Rattle.rules.specs.Syntax.{ResolvedType, run, Param}
-use Rattle.laws.specs.Types.{Stored}
+use Rattle.rules.proofs.Types.{Stored}
 use Rattle.held.specs.declared.types.HeldType.{HeldType}
 use Rattle.held.specs.Holds.{Holds}
 use Rattle.stored.specs.Copies.{Copied}

@@ -21,7 +21,7 @@ use Rattle.outcomes.specs.Outcomes.{Comes-to}
 use Rattle.statements.specs.declared.assigns.Assigned.{Assigned}
 use Rattle.statements.specs.Made.{made-assign, value-of, assign-words}
 use Rattle.statements.specs.Targets.{Field-agrees}
-use Rattle.statements.specs.Coming.{behind, comes-same, comes-err, comes-behind}
+use Rattle.outcomes.specs.Coming.{behind, comes-same, comes-err, comes-behind}
 
 module _ (c : FunctionContext) (target e : Expr) where
   -- behind the field

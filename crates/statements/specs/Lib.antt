@@ -1,5 +1,4 @@
 pub mod Made
-pub mod Coming
 pub mod Targets
 pub mod Wanted
 pub mod Values

@@ -20,7 +20,7 @@ use Rattle.places.specs.Stood.{Stood}
 use Rattle.writing.specs.Written.{Written}
 use Rattle.outcomes.specs.Outcomes.{Comes-to}
 use Rattle.statements.specs.Made.{block-words, value-of}
-use Rattle.statements.specs.Coming.{behind, comes-same, comes-err, comes-ok, comes-behind, came-err, came-ok}
+use Rattle.outcomes.specs.Coming.{behind, comes-same, comes-err, comes-ok, comes-behind, came-err, came-ok}
 
 module _ (c : FunctionContext) (ss : List Statement) where
   abbrev ended : Bool → Result (Option PortableExpr) → Result (List ℕ)

@@ -10,7 +10,7 @@ use Rattle.rules.specs.Refusal.{Result, ok, err, in-function}
 use Rattle.rules.specs.Infer.{Place, of-local, of-self, of-field, nowhere, field-of, place}
 use Rattle.rules.specs.Bodies.{assigned-field}
 use Rattle.rules.specs.declared.kinds.ExprKind.{ExprKind}
-use Rattle.laws.specs.Clash.{clash}
+use Rattle.rules.proofs.Clash.{clash}
 use Rattle.laws.specs.Runs.{expr-words}
 use Rattle.pool_bodies.specs.ExprAt.{value-shape}
 use Rattle.stored.specs.Heads.{head}

@@ -19,7 +19,7 @@ use Rattle.foretold.specs.Arms.{held-runs}
 use Rattle.writing.specs.Written.{Written}
 use Rattle.outcomes.specs.Outcomes.{Comes-to}
 use Rattle.statements.specs.Made.{value-of}
-use Rattle.statements.specs.Coming.{comes-err, comes-ok}
+use Rattle.outcomes.specs.Coming.{comes-err, comes-ok}
 
 -- an accepted expression's value, and its type as it is held
 pub record Typed (rows : ℕ) (r : Inferred) (p : Result PortableExpr) : Type 0 where

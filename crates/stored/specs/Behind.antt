@@ -5,7 +5,7 @@ use mathlib.Core.List.{List}
 use mathlib.Core.Option.{Option, some}
 use lib.ListN.{drop}
 use Rattle.rules.specs.Reader.{Rest, rest-at, Reader}
-use Rattle.laws.specs.Exact.{Exact}
+use Rattle.rules.proofs.Exact.{Exact}
 use Rattle.reading.specs.declared.Checked.{Checked}
 use Rattle.reading.specs.Verdict.{Agrees, Says}
 use Rattle.reading.specs.Stands.{Stands}

@@ -7,7 +7,7 @@ use lib.ListN.{length, drop, getD, length-append, length-drop}
 use lib.Seq.{drop-drop, drop-append-seam, getD-drop}
 use Rattle.rules.specs.Syntax.{ResolvedType, TypeExpr, run, expr-run}
 use Rattle.rules.specs.Kinds.{type-kind}
-use Rattle.laws.specs.Good.{Good, GoodExpr}
+use Rattle.rules.proofs.Good.{Good, GoodExpr}
 use Rattle.reading.specs.Stands.{Stands}
 use Rattle.pool_types.specs.TypeAt.{shape}
 use Rattle.pool_type_exprs.specs.TypeExprAt.{expr-shape}

@@ -7,8 +7,8 @@ use lib.ListN.{length, getD, length-append}
 use Rattle.rules.specs.Syntax.{ResolvedType, TypeExpr, run, expr-run}
 use Rattle.rules.specs.Kinds.{type-kind}
 use Rattle.rules.specs.declared.kinds.TypeKind.{TypeKind}
-use Rattle.laws.specs.Good.{GoodExpr}
-use Rattle.laws.specs.Types.{Stored}
+use Rattle.rules.proofs.Good.{GoodExpr}
+use Rattle.rules.proofs.Types.{Stored}
 use Rattle.reading.specs.Stands.{Stands}
 use Rattle.pool_type_exprs.specs.TypeExprAt.{expr-shape}
 use Rattle.stored.specs.Heads.{head, tail, first, second}

@@ -10,8 +10,8 @@ use Rattle.rules.specs.Syntax.{ResolvedType, run}
 use Rattle.rules.specs.Types.{same-type}
 use Rattle.rules.specs.Kinds.{type-kind}
 use Rattle.rules.specs.declared.kinds.TypeKind.{TypeKind}
-use Rattle.laws.specs.Clash.{clash}
-use Rattle.laws.specs.Good.{Good}
+use Rattle.rules.proofs.Clash.{clash}
+use Rattle.rules.proofs.Good.{Good}
 use Rattle.laws.specs.Same.{same-false, same-type-self}
 use Rattle.held.specs.declared.types.HeldType.{HeldType}
 use Rattle.held.specs.Runs.{held-run}

@@ -7,7 +7,7 @@ use Rattle.rules.specs.Syntax.{ResolvedType}
 use Rattle.rules.specs.Fits.{literal-fits, literal-own}
 use Rattle.rules.specs.Refusal.{Result, ok}
 use Rattle.rules.specs.Infer.{FunctionContext, infer-literal, type-mismatch}
-use Rattle.laws.specs.Clash.{clash}
+use Rattle.rules.proofs.Clash.{clash}
 use Rattle.types.specs.Literals.{literal-type}
 
 module _ (context : FunctionContext) (c n : ℕ) where

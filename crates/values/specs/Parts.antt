@@ -10,7 +10,7 @@ use Rattle.rules.specs.Refusal.{ok}
 use Rattle.rules.specs.Infer.{PortableExpr, PortableExprKind, typed, type-of, FunctionContext, infer-expr}
 use Rattle.rules.specs.Output.{value-words, kind-words}
 use Rattle.rules.specs.declared.kinds.ExprKind.{ExprKind}
-use Rattle.laws.specs.Clash.{clash}
+use Rattle.rules.proofs.Clash.{clash}
 use Rattle.laws.specs.Runs.{expr-words}
 use Rattle.held.specs.declared.types.HeldType.{HeldType}
 use Rattle.held.specs.Runs.{Runs}

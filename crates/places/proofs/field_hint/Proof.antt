@@ -2,7 +2,7 @@
 use borrow.Author.Needs.{needs}
 use native.Mathlib.Omega.{arith}
 use mathlib.Core.Path.{sym, ap, _∙_}
-use Rattle.laws.specs.Clash.{clash}
+use Rattle.rules.proofs.Clash.{clash}
 use Rattle.reading.specs.Sections.{length-section}
 use Rattle.places.specs.PlaceKinds.{place-kind}
 use Rattle.places.specs.declared.PlaceKind.{PlaceKind}

@@ -3,7 +3,7 @@ use Prim.Native.Nat.{ℕ}
 use mathlib.Core.Path.{sym, subst}
 use borrow.Author.Needs.{needs}
 use Rattle.rules.specs.Syntax.{run}
-use Rattle.laws.specs.Types.{type-exact}
+use Rattle.rules.proofs.Types.{type-exact}
 use Rattle.reading.specs.Stands.{Stands}
 use Rattle.layout.specs.Open.{pool-words}
 use Rattle.held.proofs.Trees.{holds}

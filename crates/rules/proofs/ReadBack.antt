@@ -8,10 +8,10 @@ use native.Mathlib.Omega.{arith}
 use lib.ListN.{length, length-append}
 use lib.Dec.{ltb, leb}
 use borrow.Author.Tests.{lt-ltb, le-leb}
 use Rattle.rules.specs.Reader.{Rest, Reader, bound, _>>=_, give, rule, here, first, word, below, repeat, times, many, option, maybe}
 use Rattle.rules.specs.ReadTypes.{sized}
 use Rattle.rules.specs.Output.{each, listed}
-use Rattle.laws.specs.Good.{All}
+use Rattle.rules.proofs.Good.{All}
 
 pub record Reads {A : Type 0} (r : Reader A) (ws : List ℕ) (a : A) : Type 0 where
   pub on : (at : ℕ) (rest : List ℕ) → r (record { at = at; left = ws ++ rest }) ≡ some (a, record { at = at + length ws; left = rest })

@@ -1,17 +1,17 @@
 -- Typed functions as a projection gives them: what holds of each, and a reader that gives them back from their words.
 use Prim.Native.Nat.{ℕ, zero, suc, _≤_, _<_, max}
 use Rattle.rules.specs.Syntax.{ResolvedType, Param}
 use Rattle.rules.specs.Reader.{Reader, _>>=_, give, fail, word, many, maybe}
 use Rattle.rules.specs.Kinds.{expr-kind, statement-kind}
 use Rattle.rules.specs.ReadTypes.{wide, resolved-type}
 use Rattle.rules.specs.Signatures.{PortableSignature}
 use Rattle.rules.specs.Infer.{PortableExpr, PortableExprKind, typed}
 use Rattle.rules.specs.Bodies.{PortableStatement, PortableFunction}
 use Rattle.rules.specs.declared.kinds.ExprKind.{ExprKind}
 use Rattle.rules.specs.declared.kinds.StatementKind.{StatementKind}
-use Rattle.laws.specs.Good.{AllOption}
-use Rattle.laws.specs.Types.{Stored}
-use Rattle.laws.specs.DefinitionRuns.{Few}
+use Rattle.rules.proofs.Good.{AllOption}
+use Rattle.rules.proofs.Types.{Stored}
+use Rattle.rules.proofs.Exact.{Few}
 
 -- how deep a typed expression nests; a leaf is 1
 abbrev mutual

@@ -8,9 +8,9 @@ use native.Mathlib.Omega.{arith}
 use lib.ListN.{length, drop, length-append}
 use lib.Dec.{ltb, leb}
 use borrow.Author.Tests.{ltb-true, leb-true}
 use Rattle.rules.specs.Reader.{Rest, rest-at, Reader, bound, _>>=_, give, fail, rule, here, first, word, below, from}
 use Rattle.rules.specs.ReadTypes.{sized}
-use Rattle.laws.specs.Clash.{clash}
+use Rattle.rules.proofs.Clash.{clash}
 
 -- from p to q some words were taken, of which P holds with the value
 pub record Found {A : Type 0} (P : A → List ℕ → Type 0) (p : Rest) (a : A) (q : Rest) : Type 0 where

@@ -5,12 +5,12 @@ use mathlib.Core.List.{List, [], _∷_, _++_}
 use mathlib.Core.Option.{Option, none, some}
 use native.Mathlib.Omega.{arith}
 use lib.ListN.{length}
 use Rattle.rules.specs.Reader.{Rest, Reader, repeat, times, many, option, maybe, below}
 use Rattle.rules.specs.ReadTypes.{sized}
 use Rattle.rules.specs.Output.{each, listed}
-use Rattle.laws.specs.Good.{All, AllOption}
-use Rattle.laws.specs.Reads.{Reads, below-reads, many-reads, maybe-none, maybe-some, sized-reads}
-use Rattle.laws.specs.Gives.{Gives, so, give-gives, then-gives, last-gives, below-gives, below-then, sized-gives}
+use Rattle.rules.proofs.Good.{All, AllOption}
+use Rattle.rules.proofs.ReadBack.{Reads, below-reads, many-reads, maybe-none, maybe-some, sized-reads}
+use Rattle.rules.proofs.Gives.{Gives, so, give-gives, then-gives, last-gives, below-gives, below-then, sized-gives}
 
 -- the words of a good value
 pub record Run {A : Type 0} (words : A → List ℕ) (Good : A → Type 0) (a : A) (ws : List ℕ) : Type 0 where
@@ -83,3 +83,14 @@ module _ {A : Type 0} {r : Reader A} {words : A → List ℕ} {Good : A → Type
 
 pub below-exact : (n : ℕ) → Exact (below n) (λ w. w ∷ []) (λ w. w < n)
 below-exact n = record { reads = λ w l. below-reads l; gives = so below-gives (λ w ws i. record { is = i .0; good = i .1 }) }
+
+-- at most so many, each good
+pub record Few {A : Type 0} (most : ℕ) (Good : A → Type 0) (xs : List A) : Type 0 where
+  pub few : length xs ≤ most
+  pub each : All Good xs
+
+pub few-exact : {A : Type 0} {r : Reader A} {words : A → List ℕ} {Good : A → Type 0} → Exact r words Good → (most : ℕ) → Exact (many most r) (listed words) (Few most Good)
+few-exact e most = record {
+  reads = λ xs g. many-exact e most .reads xs (g .few, g .each);
+  gives = so (many-exact e most .gives) (λ xs ws h. record { is = h .is; good = record { few = h .good .0; each = h .good .1 } });
+}

@@ -4,29 +4,29 @@ use mathlib.Core.Path.{_≡_, refl, sym, ap, ap₂, subst, _∙_}
 use mathlib.Core.List.{List, [], _∷_, _++_}
 use mathlib.Core.Option.{Option, none, some}
 use native.Mathlib.Omega.{arith}
 use Rattle.rules.specs.Syntax.{ResolvedType, run}
 use Rattle.rules.specs.Reader.{Reader, many, maybe}
 use Rattle.rules.specs.Kinds.{expr-kind, statement-kind}
 use Rattle.rules.specs.ReadTypes.{resolved-type}
 use Rattle.rules.specs.Types.{return-words}
 use Rattle.rules.specs.Signatures.{PortableSignature}
 use Rattle.rules.specs.Infer.{PortableExpr, PortableExprKind, typed}
 use Rattle.rules.specs.Bodies.{PortableStatement, PortableFunction}
 use Rattle.rules.specs.Output.{param-words, signature-words, value-words, kind-words, statement-words, function-words, functions-words, signatures-words}
 use Rattle.rules.specs.declared.kinds.ExprKind.{ExprKind}
 use Rattle.rules.specs.declared.kinds.StatementKind.{StatementKind}
-use Rattle.laws.specs.Codes.{ExprCode, expr-code, StatementCode, statement-code}
-use Rattle.laws.specs.Reads.{Reads, give-reads, then-reads, last-reads, word-reads}
-use Rattle.laws.specs.Gives as gives
-use Rattle.laws.specs.Gives.{Gives}
-use Rattle.laws.specs.Exact as exact
-use Rattle.laws.specs.Exact.{Exact, Run, optional, maybe-exact}
-use Rattle.laws.specs.Types.{Stored, type-exact, wide-then, wide-gives}
-use Rattle.laws.specs.Expressions.{literal-kind}
-use Rattle.laws.specs.DefinitionRuns.{Few}
-use Rattle.laws.specs.Definitions.{few-exact}
-use Rattle.laws.specs.Typed.{typed-nesting, kind-nesting, TypedValue, TypedKind, TypedNested, TypedStatement, TypedParam, TypedSignature, TypedFunction, kind-node}
-use Rattle.laws.specs.Typed.{value-tree, typed-statement-node, typed-statement, typed-param, typed-signature, typed-function}
+use Rattle.rules.proofs.Codes.{ExprCode, expr-code, StatementCode, statement-code}
+use Rattle.rules.proofs.ReadBack.{Reads, give-reads, then-reads, last-reads, word-reads}
+use Rattle.rules.proofs.Gives as gives
+use Rattle.rules.proofs.Gives.{Gives}
+use Rattle.rules.proofs.Exact as exact
+use Rattle.rules.proofs.Exact.{Exact, Run, optional, maybe-exact}
+use Rattle.rules.proofs.Types.{Stored, type-exact, wide-then, wide-gives}
+use Rattle.rules.proofs.Codes.{literal-kind}
+use Rattle.rules.proofs.Exact.{Few}
+use Rattle.rules.proofs.Exact.{few-exact}
+use Rattle.rules.proofs.Typed.{typed-nesting, kind-nesting, TypedValue, TypedKind, TypedNested, TypedStatement, TypedParam, TypedSignature, TypedFunction, kind-node}
+use Rattle.rules.proofs.Typed.{value-tree, typed-statement-node, typed-statement, typed-param, typed-signature, typed-function}
 
 module _ (names : ℕ) where
   at-kind : (f c : ℕ) (k : ExprKind) {t : ResolvedType} {ws : List ℕ} {x : PortableExprKind} → Stored names t → expr-kind c ≡ k

@@ -3,12 +3,12 @@ use Prim.Native.Nat.{ℕ, _<_}
 use mathlib.Core.Path.{_≡_, refl}
 use mathlib.Core.Bool.{Bool, true, false, cond}
 use lib.Dec.{ltb, eqb}
-use borrow.Author.Tests.{eqb-true, ltb-true}
+use borrow.Author.Tests.{eqb-true, lt-ltb, ltb-true}
 use Rattle.rules.specs.Words.{within}
 use Rattle.rules.specs.Kinds.{type-kind, expr-kind, statement-kind}
 use Rattle.rules.specs.declared.kinds.TypeKind.{TypeKind}
 use Rattle.rules.specs.declared.kinds.ExprKind.{ExprKind}
 use Rattle.rules.specs.declared.kinds.StatementKind.{StatementKind}
 
 -- down a chain of tests
 step : {K : Type 0} (P : K → Type 0) (b : Bool) (x y : K) → (b ≡ true → P x) → P y → P (cond b x y)
@@ -91,3 +91,7 @@ statement-code c =
   where
     P : StatementKind → Type 0
     P k = StatementCode k c
+
+pub literal-kind : (c : ℕ) → c < 3 → expr-kind c ≡ ExprKind.Literal
+unfolding expr-kind
+literal-kind c h = rw (lt-ltb c 3 h)

@@ -7,21 +7,21 @@ use native.Mathlib.Omega.{arith}
 use lib.ListN.{length, length-append}
 use lib.Dec.{leb}
 use borrow.Author.Tests.{le-leb, leb-true}
 use Rattle.rules.specs.Words.{within}
 use Rattle.rules.specs.Syntax.{ResolvedType, run}
 use Rattle.rules.specs.Reader.{Reader, _>>=_, below, many}
 use Rattle.rules.specs.Kinds.{type-kind}
 use Rattle.rules.specs.ReadTypes.{sub-byte, wide, bits-inline, type-node, type-tree, resolved-type}
 use Rattle.rules.specs.Output.{each, listed}
 use Rattle.rules.specs.declared.kinds.TypeKind.{TypeKind}
-use Rattle.laws.specs.Clash.{clash}
-use Rattle.laws.specs.Good.{Below, Good, depth}
-use Rattle.laws.specs.Codes.{TypeCode, type-code}
-use Rattle.laws.specs.Reads.{Reads, give-reads, then-reads, last-reads, word-reads, rule-reads, below-then}
-use Rattle.laws.specs.Gives as gives
-use Rattle.laws.specs.Gives.{Gives}
-use Rattle.laws.specs.Exact as exact
-use Rattle.laws.specs.Exact.{Exact, Run, below-exact, many-exact, sized-exact}
+use Rattle.rules.proofs.Clash.{clash}
+use Rattle.rules.proofs.Good.{Below, Good, depth}
+use Rattle.rules.proofs.Codes.{TypeCode, type-code}
+use Rattle.rules.proofs.ReadBack.{Reads, give-reads, then-reads, last-reads, word-reads, rule-reads, below-then}
+use Rattle.rules.proofs.Gives as gives
+use Rattle.rules.proofs.Gives.{Gives}
+use Rattle.rules.proofs.Exact as exact
+use Rattle.rules.proofs.Exact.{Exact, Run, below-exact, many-exact, sized-exact}
 
 -- a good type, so deep
 pub record Deep (names f : ℕ) (t : ResolvedType) : Type 0 where
