@@ -3,9 +3,9 @@ use Prim.Native.Nat.{ℕ, _+_}
 use mathlib.Core.Path.{_≡_, refl, sym, ap, subst, _∙_}
 use mathlib.Core.Bool.{Bool, false}
 use mathlib.Core.List.{List}
-use mathlib.Core.Option.{Option, none, some}
-use lib.ListN.{getD, length}
-use Rattle.rules.specs.Syntax.{ResolvedType, MessageDef, TypeDef, CompiledSchema}
+use mathlib.Core.Option.{Option, some}
+use lib.ListN.{getD}
+use Rattle.rules.specs.Syntax.{ResolvedType, TypeDef, CompiledSchema}
 use Rattle.rules.specs.Options.{then}
 use Rattle.rules.specs.Substitute.{get, number}
 use Rattle.rules.specs.Project.{as-message}

@@ -2,8 +2,7 @@
 use layout::Layout;
 use rules::ids::NameId;
 ghost use mathlib.Core.Path.{_≡_};
-ghost use mathlib.Core.List.{List};
-ghost use Prim.Native.Nat.{ℕ, _+_};
+ghost use Prim.Native.Nat.{ℕ};
 ghost use Rattle.rules.specs.Syntax.{ImplFnDef, TraitFnDef};
 ghost use Rattle.layout.specs.Rows.{Inside};
 ghost use Rattle.functions.specs.Functions.{Function-here, Asked-here};

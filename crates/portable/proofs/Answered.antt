@@ -4,16 +4,31 @@ use mathlib.Core.Path.{_≡_, refl, sym, ap, _∙_}
 use mathlib.Core.Bool.{Bool, true, false}
 use mathlib.Core.List.{List}
 use mathlib.Core.Option.{Option, none, some}
+use native.Mathlib.Omega.{arith}
+use native.Mathlib.Decide.{decLe}
 use lib.ListN.{length}
 use borrow.Author.Tests.{lt-ltb, le-ltb}
 use Rattle.rules.specs.Syntax.{CompiledSchema}
 use Rattle.rules.specs.Options.{is-some}
 use Rattle.rules.specs.Image.{readable}
 use Rattle.rules.specs.Refusal.{Result, refusal}
-use Rattle.rules.specs.Answer.{Answer, refused, finished, answered, signatures-call, signatures-answer}
+use Rattle.rules.specs.Answer.{Answer, refused, finished, answered, project-call, signatures-call, project-answer, signatures-answer}
 use Rattle.reading.specs.Steps.{true-false}
 use Rattle.layout.specs.declared.Opened.{Opened}
+use Rattle.layout.specs.Rows.{Cut}
+use Rattle.layout.specs.Open.{Open}
 use Rattle.image.specs.Verdict.{Verdict}
+use Rattle.portable.specs.declared.Front.{Front}
+use Rattle.portable.specs.Fronts.{Fronts}
+
+-- the two calls
+pub signatures-is : (image : List ℕ) (number : ℕ) (output detail : List ℕ) → signatures-answer image number output detail ≡ answered (signatures-call number) image output detail
+unfolding signatures-answer
+signatures-is image number output detail = refl
+
+pub project-is : (image : List ℕ) (number : ℕ) (output detail : List ℕ) → project-answer image number output detail ≡ answered (project-call number) image output detail
+unfolding project-answer
+project-is image number output detail = refl
 
 module _ (call : CompiledSchema → Result (ℕ × List ℕ)) (image output detail : List ℕ) where
   abbrev read : Option CompiledSchema → Answer
@@ -30,24 +45,48 @@ module _ (call : CompiledSchema → Result (ℕ × List ℕ)) (image output deta
   unfolding answered
   long h e = ap checked (le-ltb (length detail) 576 h) ∙ ap read e
 
-module _ (image : List ℕ) (number : ℕ) (output detail : List ℕ) where
-  pub short-detail : length detail < 576 → signatures-answer image number output detail ≡ refused (refusal 1) output detail
-  unfolding signatures-answer
-  short-detail h = short (signatures-call number) image output detail h
+  pub when-readable : {s : CompiledSchema} → 576 ≤ length detail → readable image ≡ some s → answered call image output detail ≡ finished (call s) output detail
+  when-readable h e = long h e
 
-  pub unreadable : 576 ≤ length detail → readable image ≡ none → signatures-answer image number output detail ≡ refused (refusal 2) output detail
-  unfolding signatures-answer
-  unreadable h e = long (signatures-call number) image output detail h e
+  -- 1 or 2
+  pub front-refused : {r : Front} → Fronts image (length detail) r → (r .number ≡ 0 → ⊥) → answered call image output detail ≡ refused (refusal (r .number)) output detail
+  front-refused {r} f n = by-room (decLe 576 (length detail))
+    where
+      same : {k : ℕ} → r .number ≡ k → refused (refusal k) output detail ≡ refused (refusal (r .number)) output detail
+      same e = ap (λ (k : ℕ). refused (refusal k) output detail) (sym e)
 
-  pub when-readable : 576 ≤ length detail → {s : CompiledSchema} → readable image ≡ some s → signatures-answer image number output detail ≡ finished (signatures-call number s) output detail
-  unfolding signatures-answer
-  when-readable h e = long (signatures-call number) image output detail h e
+      by-reading : 576 ≤ length detail → (o : Option CompiledSchema) → readable image ≡ o → answered call image output detail ≡ refused (refusal (r .number)) output detail
+      by-reading h none e = long h e ∙ same (f .unread h e)
+      by-reading h (some s) e = absurd (n (f .opens h s e .0))
 
--- a verdict that is not ok
-pub not-readable : {image : List ℕ} {r : Opened} → Verdict image r → r .ok ≡ false → readable image ≡ none
-unfolding is-some
-not-readable {image} {r} v n = go (readable image) refl
+      by-room : Dec (576 ≤ length detail) → answered call image output detail ≡ refused (refusal (r .number)) output detail
+      by-room (yes h) = by-reading h (readable image) refl
+      by-room (no h) = short (omega arith) ∙ same (f .short (omega arith))
+
+-- neither 1 nor 2: there is room, and the layout opens the schema
+pub record Goes (image : List ℕ) (room : ℕ) (r : Front) : Type 0 where
+  pub room-enough : 576 ≤ room
+  pub schema : CompiledSchema
+  pub cut : Cut image (r .layout)
+  pub opened : Open image (r .layout) schema
+
+pub goes : {image : List ℕ} {room : ℕ} {r : Front} → Fronts image room r → r .number ≡ 0 → Goes image room r
+goes {image} {room} {r} f z = by-room (decLe 576 room)
   where
-    go : (o : Option CompiledSchema) → readable image ≡ o → readable image ≡ none
-    go none e = e
-    go (some s) e = absurd (true-false (sym (v .ok ∙ ap is-some e) ∙ n))
+    by-reading : 576 ≤ room → (o : Option CompiledSchema) → readable image ≡ o → Goes image room r
+    by-reading h none e = absurd (omega (arith, f .unread h e))
+    by-reading h (some s) e = let p = f .opens h s e in record { room-enough = h; schema = s; cut = p .1; opened = p .2 }
+
+    by-room : Dec (576 ≤ room) → Goes image room r
+    by-room (yes h) = by-reading h (readable image) refl
+    by-room (no h) = absurd (omega (arith, f .short (omega arith)))
+
+-- a verdict that is not ok, and one that is
+module _ {image : List ℕ} {r : Opened} (v : Verdict image r) where
+  pub not-some : r .ok ≡ false → (s : CompiledSchema) → readable image ≡ some s → ⊥
+  unfolding is-some
+  not-some n s e = true-false (sym (v .ok ∙ ap is-some e) ∙ n)
+
+  pub not-none : r .ok ≡ true → readable image ≡ none → ⊥
+  unfolding is-some
+  not-none y e = true-false (sym y ∙ v .ok ∙ ap is-some e)

@@ -1,11 +1,34 @@
 // The public calls: an image, an implementation's number and two lent buffers in, an answer out.
 use answers::answer::Answer;
+use layout::Layout;
 use rules::ids::TypeId;
 ghost use mathlib.Core.Path.{_≡_};
-ghost use Rattle.rules.specs.Answer.{signatures-answer};
+ghost use Rattle.rules.specs.Answer.{project-answer, signatures-answer};
 ghost use Rattle.answers.specs.Answers.{answer-of};
+ghost use Rattle.portable.specs.Fronts.{Fronts};
 
-// The signatures that an implementation's trait asks for. 1, then 2, then what the readable image says.
+// What comes before a call: 1 or 2, or 0 and the readable image's layout.
+struct Front {
+    number: u32,
+    layout: Layout,
+}
+
+// 1 where a detail of so many bytes is lent that a refusal's may not fit it, then 2.
+fn look(image: &[u8], room: usize) -> Front
+    ensures { λ r. ⌜ Fronts (now (image .entry)) room r ⌝ }
+{
+    let o = image::read_image(image);
+    let layout = o.layout;
+    if room < 576 {
+        return Front { number: 1, layout };
+    }
+    if !o.ok {
+        return Front { number: 2, layout };
+    }
+    Front { number: 0, layout }
+}
+
+// The signatures that an implementation's trait asks for.
 pub fn expected_signatures(
     image: &[u8],
     number: TypeId,
@@ -14,13 +37,22 @@ pub fn expected_signatures(
 ) -> Answer
     ensures { λ r. ⌜ answer-of r (now (output .exit)) (now (detail .exit)) ≡ signatures-answer (now (image .entry)) (number .0) (now (output .entry)) (now (detail .entry)) ⌝ }
 {
-    if detail.len() < 576 {
-        return answers::answer::alone(1);
+    let f = look(image, detail.len());
+    if f.number != 0 {
+        return answers::answer::alone(f.number);
     }
-    let o = image::read_image(image);
-    if !o.ok {
-        return answers::answer::alone(2);
-    }
-    let l = o.layout;
+    let l = f.layout;
     signatures::signatures_readable(image, l, number, output, detail)
+}
+
+// The typed functions of an implementation.
+pub fn project_impl(image: &[u8], number: TypeId, output: &mut [u8], detail: &mut [u8]) -> Answer
+    ensures { λ r. ⌜ answer-of r (now (output .exit)) (now (detail .exit)) ≡ project-answer (now (image .entry)) (number .0) (now (output .entry)) (now (detail .entry)) ⌝ }
+{
+    let f = look(image, detail.len());
+    if f.number != 0 {
+        return answers::answer::alone(f.number);
+    }
+    let l = f.layout;
+    projection::project_readable(image, l, number, output, detail)
 }

@@ -18,7 +18,7 @@ use Rattle.answers.specs.declared.answer.Outcome.{Outcome}
 use Rattle.writing.specs.Written.{Written, written-none, written-then}
 use Rattle.outcomes.specs.Outcomes.{Comes-to}
 use Rattle.signature.proofs.ParamLoop.{each-snoc}
-use Rattle.bodies.specs.Coming.{comes-err, comes-ok, came-err, came-ok}
+use Rattle.statements.specs.Coming.{comes-err, comes-ok, came-err, came-ok}
 use Rattle.functions.specs.Functions.{Asked-here}
 use Rattle.projection.specs.declared.parts.Parts.{Parts}
 use Rattle.projection.specs.Steps.{one-words, list-words}

@@ -3,10 +3,9 @@ use Prim.Native.Nat.{ℕ}
 use mathlib.Core.Path.{_≡_, refl, sym, ap, subst, _∙_}
 use mathlib.Core.Bool.{true, false}
 use mathlib.Core.List.{List}
-use mathlib.Core.Option.{Option, none, some}
-use Rattle.rules.specs.Syntax.{FnBody, ImplFnDef, MessageDef, ImplDef}
+use mathlib.Core.Option.{some}
+use Rattle.rules.specs.Syntax.{MessageDef, ImplDef}
 use Rattle.rules.specs.Refusal.{in-function}
-use Rattle.rules.specs.Signatures.{PortableSignature}
 use Rattle.rules.specs.CheckSignature.{check-signature}
 use Rattle.rules.specs.Project.{find-function}
 use Rattle.rules.specs.Output.{signature-words}
@@ -24,7 +23,7 @@ use Rattle.traits.specs.declared.find.Found.{Found}
 use Rattle.traits.specs.Found.{Finds}
 use Rattle.traits.proofs.Has.{Has, has, lacks}
 use Rattle.bodies.specs.Made.{body-words-of}
-use Rattle.bodies.specs.Coming.{comes-same, comes-err, comes-behind}
+use Rattle.statements.specs.Coming.{comes-same, comes-err, comes-behind}
 use Rattle.functions.specs.Functions.{Function-here}
 use Rattle.projection.specs.declared.parts.Parts.{Parts}
 use Rattle.projection.specs.Steps.{one-words}

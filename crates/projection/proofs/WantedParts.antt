@@ -1,13 +1,13 @@
 -- A trait's functions with the type parameters in view, where its signatures are expected. Assumes nothing.
 use Prim.Native.Nat.{ℕ, _+_, _<_, _≤_}
-use mathlib.Core.Path.{_≡_, refl, sym, ap, subst, _∙_}
+use mathlib.Core.Path.{_≡_, refl, sym, subst, _∙_}
 use mathlib.Core.List.{List, _++_, map}
 use native.Mathlib.Omega.{arith}
 use lib.ListN.{length, getD}
-use Rattle.rules.specs.Syntax.{MessageDef, TraitFnDef, ImplDef}
-use Rattle.rules.specs.Refusal.{Result, ok}
+use Rattle.rules.specs.Syntax.{MessageDef, ImplDef}
+use Rattle.rules.specs.Refusal.{Result}
 use Rattle.rules.specs.Substitute.{view}
-use Rattle.rules.specs.Signatures.{PortableSignature}
+use Rattle.rules.specs.Signatures.{expected-functions}
 use Rattle.rules.specs.Project.{no-stranger}
 use Rattle.layout.specs.declared.Layout.{Layout}
 use Rattle.layout.specs.Rows.{Inside}
@@ -22,9 +22,8 @@ use Rattle.signature.proofs.Places.{pool-small}
 use Rattle.expected.specs.Asked.{in-words, Asked}
 use Rattle.expected.proofs.Views as views
 use Rattle.functions.specs.Functions.{All-asked-here}
-use Rattle.projection.specs.Asked.{Stand, Behind, All, Wanted}
+use Rattle.projection.specs.Asked.{Behind, All, Wanted}
 use Rattle.projection.proofs.WholeLaws.{same-names, as-many, words-ok}
-use Rattle.rules.specs.Signatures.{expected-functions}
 
 module _ {image : List ℕ} {l : Layout} {start types : ℕ} (w : Wanted image l start types) {n : ℕ} (is : n ≡ getD (pool-words image l) (start + 1) 0) where
   pub equal : n ≡ getD (pool-words image l) types 0

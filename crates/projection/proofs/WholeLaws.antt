@@ -1,6 +1,6 @@
 -- The whole projection by its steps. Assumes nothing.
 use Prim.Native.Nat.{ℕ, _<_, _^_}
-use mathlib.Core.Path.{_≡_, refl, sym, ap, ap₂, subst, _∙_}
+use mathlib.Core.Path.{_≡_, refl, sym, ap, ap₂, _∙_}
 use mathlib.Core.Bool.{Bool, true, false, true≢false}
 use mathlib.Core.List.{List, [], _∷_, map}
 use mathlib.Core.Option.{Option, none, some}
@@ -28,8 +28,7 @@ use Rattle.layout.specs.Opens.{Opens}
 use Rattle.laws_answers.specs.Answers.{project-bound}
 use Rattle.outcomes.specs.Outcomes.{Passes-agrees, Passes, Comes-to}
 use Rattle.expected.specs.Asked.{in-words}
-use Rattle.bodies.specs.Coming as coming
-use Rattle.bodies.specs.Coming.{came-err, came-ok}
+use Rattle.statements.specs.Coming.{came-err, came-ok}
 use Rattle.projection.specs.Steps.{list-words, tested-words, found-words}
 use Rattle.projection.specs.Asked.{Few}
 use Rattle.projection.proofs.Resolved.{resolved, first, none-left}

@@ -2,8 +2,6 @@
 use crate::parts::Parts;
 use answers::answer::Outcome;
 use layout::Layout;
-ghost use mathlib.Core.List.{List};
-ghost use Prim.Native.Nat.{ℕ};
 ghost use lib.ListN.{length};
 ghost use Rattle.rules.specs.Syntax.{MessageDef};
 ghost use Rattle.layout.specs.Rows.{Cut};

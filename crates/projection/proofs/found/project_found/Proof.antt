@@ -1,7 +1,6 @@
 -- `projection::found::project_found` meets its contract. Assumes nothing.
 use borrow.Author.Needs.{needs}
 use mathlib.Core.Path.{refl, _∙_}
-use native.Mathlib.Omega.{arith}
 use borrow.Author.Tests.{not-true, not-false}
 use denote.Ref.{now}
 use Rattle.answers.proofs.Calls.{comes-err, is-accepted, is-refused}

@@ -1,9 +1,8 @@
 -- `projection::one::project_one` meets its contract. Assumes nothing.
 use borrow.Author.Needs.{needs}
-use mathlib.Core.Path.{_≡_, refl, sym, ap, _∙_}
+use mathlib.Core.Path.{refl, sym, ap, _∙_}
 use native.Mathlib.Omega.{arith}
 use borrow.Author.Tests.{not-true, not-false}
-use lib.ListN.{length}
 use Rattle.answers.specs.Refusals.{refusal-of}
 use Rattle.projection.proofs.Entering.{small, params-here, few, table, return-here, holds}
 use Rattle.projection.proofs.OneFunction.{missing, hit, not-alike, alike, in-context, body-at, name-is}

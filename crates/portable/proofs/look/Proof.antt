@@ -1,0 +1,17 @@
+-- `portable::look` meets its contract. Assumes nothing.
+use borrow.Author.Needs.{needs}
+use mathlib.Core.Path.{refl}
+use native.Mathlib.Omega.{arith}
+use borrow.Author.Tests.{not-true, not-false}
+use Rattle.portable.proofs.Answered.{not-some, not-none}
+use Rattle.portable.proofs.look.Statement.{statement}
+use Rattle.portable.proofs.look.Tie as tie
+
+pub look-spec : {M : Type 1} → statement M
+look-spec =
+    tie.close
+    (tie.spec
+    (λ c κs. search needs)
+    (λ c. record { short = λ h. refl; unread = λ h e. absurd (omega arith); opens = λ h s e. absurd (omega arith) })
+    (λ c. record { short = λ h. absurd (omega arith); unread = λ h e. refl; opens = λ h s e. absurd (not-some (c .before .before .before .before .read-image .ensures) (not-true _ (c .if2 .taken)) s e) })
+    (λ c. record { short = λ h. absurd (omega arith); unread = λ h e. absurd (not-none (c .before .before .before .before .read-image .ensures) (not-false _ (c .if2 .left)) e); opens = λ h s e. (refl, c .before .before .before .before .read-image .ensures .cut s e, c .before .before .before .before .read-image .ensures .opens s e) }))

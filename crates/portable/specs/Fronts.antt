@@ -1,0 +1,16 @@
+-- What comes before a call.
+use Prim.Native.Nat.{ℕ, _<_, _≤_}
+use mathlib.Core.Path.{_≡_}
+use mathlib.Core.List.{List}
+use mathlib.Core.Option.{none, some}
+use Rattle.rules.specs.Syntax.{CompiledSchema}
+use Rattle.rules.specs.Image.{readable}
+use Rattle.layout.specs.Rows.{Cut}
+use Rattle.layout.specs.Open.{Open}
+use Rattle.portable.specs.declared.Front.{Front}
+
+-- 1 where the detail has not 576 bytes, then 2 where the image is not readable; else 0, and the layout opens its schema
+pub record Fronts (image : List ℕ) (room : ℕ) (r : Front) : Type 0 where
+  pub short : room < 576 → r .number ≡ 1
+  pub unread : 576 ≤ room → readable image ≡ none → r .number ≡ 2
+  pub opens : 576 ≤ room → (s : CompiledSchema) → readable image ≡ some s → (r .number ≡ 0) × Cut image (r .layout) × Open image (r .layout) s
