@@ -1,5 +1,6 @@
 // The C forms, for Rust or C to link.
 mod block;
+mod project_call;
 mod signatures_call;
 
 ghost use mathlib.Core.Path.{_≡_};

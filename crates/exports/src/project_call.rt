@@ -1,0 +1,24 @@
+// The call for the typed functions of an implementation, from C.
+use crate::block::SHORT_BLOCK;
+use crate::block::put_answer;
+use rules::ids::TypeId;
+ghost use Rattle.rules.specs.Answer.{project-answer};
+ghost use Rattle.exports.specs.Block.{Exported};
+
+// portable::project_impl, with the answer's five words in a lent block.
+#[no_mangle]
+pub extern "C" fn fruscalitu_project_impl(
+    image: &[u8],
+    number: u32,
+    output: &mut [u8],
+    detail: &mut [u8],
+    answer: &mut [u32],
+) -> u32
+    ensures { λ r. ⌜ Exported (project-answer (now (image .entry)) number (now (output .entry)) (now (detail .entry))) r (now (output .entry)) (now (output .exit)) (now (detail .entry)) (now (detail .exit)) (now (answer .entry)) (now (answer .exit)) ⌝ }
+{
+    if answer.len() < 5 {
+        return SHORT_BLOCK;
+    }
+    let a = portable::project_impl(image, TypeId(number), output, detail);
+    put_answer(answer, a)
+}
