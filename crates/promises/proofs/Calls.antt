@@ -13,7 +13,7 @@ use Rattle.rules.specs.Answer.{project-answer, refused, accepted, too-short}
 use Rattle.rules.specs.Edges.{whole-image}
 use Rattle.answers.specs.Answers.{answer-of}
 use Rattle.promises.specs.Written.{written, Together}
-use Rattle.promises.specs.Calls.{Call, Projected, wrote, CallsSameBodies, NoCallBeginsAnother, CallsTogether, WholeCase}
+use Rattle.promises.specs.Calls.{Call, Projected, wrote, CallsSameBodies, NoCallBeginsAnother, CallsTogether, OneAnswer, WholeCase}
 use Rattle.promises.proofs.Promises.{same-bytes-same-bodies, no-answer-begins-another, answers-together}
 
 abbrev of-rules : Call → rules.Answer
@@ -48,6 +48,9 @@ calls-together c d p q e room lent schema i j is-schema is-i is-j r =
     answers-together (c .image) schema (c .row) (d .row) i j (c .output-before) (d .output-before) (c .detail-before) (d .detail-before) is-schema is-i is-j r room lent in
     let u : Together (of-rules c) (of-rules d) = subst (λ (image : List ℕ). Together (of-rules c) (project-answer image (d .row) (d .output-before) (d .detail-before))) e t in
     subst (λ (a : rules.Answer). Together a (answer-of (d .answer) (d .output) (d .detail))) (sym p) (subst (λ (a : rules.Answer). Together (of-rules c) a) (sym q) u)
+
+pub one-answer : OneAnswer
+one-answer c d p q image row output detail = p ∙ rw (image, row, output, detail) (sym q)
 
 -- the rules' answer for the whole case
 abbrev whole-words : List ℕ

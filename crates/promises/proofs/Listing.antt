@@ -75,15 +75,19 @@ module _ (i j : ImplDef) (x : ℕ) where
 -- implementations with the same typed functions have the same bodies
 pub same-bodies : (schema : CompiledSchema) (i j : ImplDef) (v w : ℕ) (fs : List PortableFunction)
     → project-impl schema i ≡ ok (v, fs) → project-impl schema j ≡ ok (w, fs) → SameBodies i j
-same-bodies schema i j v w fs p q x =
+same-bodies schema i j v w fs p q =
     let a = parts schema i _ p in
     let b = parts schema j _ q in
     let s : no-stranger (names fs) (i .functions) ≡ ok tt = rw (names-expected i (a .message) (a .expected) .gives fs (a .projected)) (a .no-strangers) in
     let t : no-stranger (names fs) (j .functions) ≡ ok tt = rw (names-expected j (b .message) (b .expected) .gives fs (b .projected)) (b .no-strangers) in
-    go (member x (names fs)) refl (project-erased schema i .gives (v, fs) p) (project-erased schema j .gives (w, fs) q) s t
+    record {
+      once-left = a .no-repeats;
+      once-right = b .no-repeats;
+      same = λ x. go x (member x (names fs)) refl (project-erased schema i .gives (v, fs) p) (project-erased schema j .gives (w, fs) q) s t;
+    }
   where
-    go : (m : Bool) → member x (names fs) ≡ m → All (Comes (i .functions)) fs → All (Comes (j .functions)) fs
+    go : (x : ℕ) (m : Bool) → member x (names fs) ≡ m → All (Comes (i .functions)) fs → All (Comes (j .functions)) fs
         → no-stranger (names fs) (i .functions) ≡ ok tt → no-stranger (names fs) (j .functions) ≡ ok tt
         → SameFunction (find-function x (i .functions)) (find-function x (j .functions))
-    go true e a b s t = picked i j x fs a b e
-    go false e a b s t = not-listed i j x _ s t e
+    go x true e a b s t = picked i j x fs a b e
+    go x false e a b s t = not-listed i j x _ s t e

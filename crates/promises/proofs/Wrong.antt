@@ -51,7 +51,7 @@ different s =
 -- 1: true and false look alike where values are dropped
 pub values-dropped : SameWordsSameBodies without-values → ⊥
 unfolding computed
-values-dropped h = different (h sample 4 5 _ _ _ _ true-projects false-projects refl 0)
+values-dropped h = different (h sample 4 5 _ _ _ _ true-projects false-projects refl .same 0)
 
 -- 2: no function at all begins any output where the count is left out
 pub count-left-out : NoneBeginsAnother without-count → ⊥

@@ -1,10 +1,11 @@
 -- Statements without the types written on lets, and two implementations whose bodies are the same but for those.
 use Prim.Native.Nat.{ℕ}
 use mathlib.Core.Path.{_≡_}
-use mathlib.Core.List.{List, map}
+use mathlib.Core.List.{List, [], map}
 use mathlib.Core.Option.{Option, none, some}
 use Rattle.rules.specs.Syntax.{Statement, FnBody, ImplFnDef, ImplDef}
-use Rattle.rules.specs.Project.{find-function}
+use Rattle.rules.specs.Refusal.{ok}
+use Rattle.rules.specs.Project.{no-repeat, find-function}
 
 -- a statement with no type on its let; all else stays
 abbrev pub bare-statement : Statement → Statement
@@ -31,6 +32,8 @@ SameFunction none (some g) = ⊥
 SameFunction (some f) none = ⊥
 SameFunction (some f) (some g) = SameStatements (f .body) (g .body)
 
--- under every name
-abbrev pub SameBodies : ImplDef → ImplDef → Type 0
-SameBodies i j = (x : ℕ) → SameFunction (find-function x (i .functions)) (find-function x (j .functions))
+-- no name is listed twice in either (9 finds no repeat), and under every name the two list the same
+pub record SameBodies (i j : ImplDef) : Type 0 where
+  pub once-left : no-repeat [] (i .functions) ≡ ok tt
+  pub once-right : no-repeat [] (j .functions) ≡ ok tt
+  pub same : (x : ℕ) → SameFunction (find-function x (i .functions)) (find-function x (j .functions))

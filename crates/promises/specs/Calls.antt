@@ -56,6 +56,12 @@ CallsTogether =
     → (schema : CompiledSchema) (i j : ImplDef) → readable (c .image) ≡ some schema → find-implementation schema (c .row) ≡ ok i → find-implementation schema (d .row) ≡ ok j
     → Relisted i j → Together (answer-of (c .answer) (c .output) (c .detail)) (answer-of (d .answer) (d .output) (d .detail))
 
+-- Two calls with the same question give the same answer, and leave the same in both buffers
+abbrev pub OneAnswer : Type 0
+OneAnswer =
+    (c d : Call) → Projected c → Projected d → c .image ≡ d .image → c .row ≡ d .row → c .output-before ≡ d .output-before → c .detail-before ≡ d .detail-before
+    → answer-of (c .answer) (c .output) (c .detail) ≡ answer-of (d .answer) (d .output) (d .detail)
+
 -- 01's whole case, the one P case that is an image: what the call answers of it, given room
 pub record AnswersWhole (c : Call) : Type 0 where
   pub number : c .answer .number ≡ 0
