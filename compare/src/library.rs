@@ -14,7 +14,7 @@ pub const READABLE: Option<Verdict> = None;
 
 /// By call, the library's answer, in a build that has the library.
 #[cfg(feature = "library")]
-pub const ANSWERS: [Option<Side>; 2] = [None, Some(linked::answer)];
+pub const ANSWERS: [Option<Side>; 2] = [Some(linked::answer); 2];
 #[cfg(not(feature = "library"))]
 pub const ANSWERS: [Option<Side>; 2] = [None, None];
 
@@ -44,6 +44,17 @@ mod linked {
             answer: *mut u32,
             answer_length: usize,
         ) -> u32;
+        fn fruscalitu_project_impl(
+            image: *const u8,
+            image_length: usize,
+            number: u32,
+            output: *mut u8,
+            output_length: usize,
+            detail: *mut u8,
+            detail_length: usize,
+            answer: *mut u32,
+            answer_length: usize,
+        ) -> u32;
     }
 
     pub fn readable(image: &[u8]) -> bool {
@@ -54,7 +65,7 @@ mod linked {
 
     fn call(call: Call, image: &[u8], row: u32, output: &mut [u8], detail: &mut [u8], block: &mut [u32]) -> u32 {
         let function = match call {
-            Call::ProjectImpl => unreachable!("the library does not have this call yet"),
+            Call::ProjectImpl => fruscalitu_project_impl,
             Call::ExpectedSignatures => fruscalitu_expected_signatures,
         };
         // Sound: addresses and lengths are those of four slices that live through the call and do not overlap. The

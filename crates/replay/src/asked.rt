@@ -3,6 +3,11 @@ use crate::case::Case;
 use answers::answer::Answer;
 use rules::ids::TypeId;
 
+// The calls as the file names them.
+pub const PROJECT_IMPL: u32 = 0;
+
+pub const EXPECTED_SIGNATURES: u32 = 1;
+
 // What every lent byte is before a call.
 const OUTPUT_FILL: u8 = 170;
 
@@ -63,10 +68,18 @@ fn holds(buffer: &[u8], stored: &[u8], fill: u8) -> bool {
     true
 }
 
+// Either call.
+fn answer(call: u32, image: &[u8], number: TypeId, output: &mut [u8], detail: &mut [u8]) -> Answer {
+    if call == PROJECT_IMPL {
+        return portable::project_impl(image, number, output, detail);
+    }
+    portable::expected_signatures(image, number, output, detail)
+}
+
 // Asks with the two lent buffers.
 fn ask(file: &[u8], c: Case, output: &mut [u8], detail: &mut [u8]) -> Compared {
     let image = crate::case::bytes(file, c.image);
-    let a = portable::expected_signatures(image, TypeId(c.row), output, detail);
+    let a = answer(c.call, image, TypeId(c.row), output, detail);
     Compared {
         fields: same_fields(file, c.fields, a),
         output: holds(output, crate::case::bytes(file, c.written), OUTPUT_FILL),

@@ -36,9 +36,9 @@ fn counted(t: Tally, c: Compared) -> Tally {
     }
 }
 
-// One case, compared and told.
-fn one(file: &[u8], label: &[u8], c: Case, t: Tally) -> Tally {
-    if c.call != 1 {
+// One case, compared and told, where it is of the call that is replayed.
+fn one(file: &[u8], label: &[u8], c: Case, call: u32, t: Tally) -> Tally {
+    if c.call != call {
         return t;
     }
     let compared = asked::compare(file, c);
@@ -46,8 +46,8 @@ fn one(file: &[u8], label: &[u8], c: Case, t: Tally) -> Tally {
     counted(t, compared)
 }
 
-// All cases with their labels.
-fn replay(file: &[u8], names: &[u8]) {
+// All cases of a call with their labels.
+fn replay(file: &[u8], names: &[u8], call: u32, title: &[u8]) {
     let count = words::word_at(file, 0);
     let mut tally = none();
     let mut at = case::least(4, file.len());
@@ -60,7 +60,7 @@ fn replay(file: &[u8], names: &[u8]) {
             return;
         }
         let end = labels::end(names, name);
-        tally = one(file, &names[name..end], c, tally);
+        tally = one(file, &names[name..end], c, call, tally);
         at = c.next;
         name = labels::next(names, end);
         i += 1;
@@ -69,12 +69,7 @@ fn replay(file: &[u8], names: &[u8]) {
         told::damaged(count);
         return;
     }
-    told::tally(
-        b"expected_signatures",
-        tally.cases,
-        tally.bytes,
-        tally.differ,
-    );
+    told::tally(title, tally.cases, tally.bytes, tally.differ);
 }
 
 // Room for the cases. The statement gives only the length, which lending needs.
@@ -86,14 +81,22 @@ fn room() -> [u8; 1048576]
 
 fn main() {
     let mut file = room();
-    let cases = asking::input::read_file(b"cases.bin", &mut file);
+    let of_file = asking::input::read_file(b"cases.bin", &mut file);
     let mut names = io::large_buffer();
-    let labels = asking::input::read_file(b"labels.txt", &mut names);
-    let n = cases.len;
-    let m = labels.len;
-    if !cases.ok || !labels.ok {
+    let of_names = asking::input::read_file(b"labels.txt", &mut names);
+    let n = of_file.len;
+    let m = of_names.len;
+    if !of_file.ok || !of_names.ok {
         told::unread();
         return;
     }
-    replay(&file[..n], &names[..m]);
+    let cases = &file[..n];
+    let labels = &names[..m];
+    replay(cases, labels, asked::PROJECT_IMPL, b"project_impl");
+    replay(
+        cases,
+        labels,
+        asked::EXPECTED_SIGNATURES,
+        b"expected_signatures",
+    );
 }

@@ -5,10 +5,10 @@ use Rattle.replay.proofs.replay.Statement.{statement}
 use Rattle.replay.proofs.replay.Tie as tie
 
 abbrev Inv-loop : tie.InvT-loop
-Inv-loop file names count tally₀ at₀ name₀ i₀ t10 tally at name i = (at ≤ length file) × (name ≤ length names)
+Inv-loop file names call title count tally₀ at₀ name₀ i₀ tally at name i = (at ≤ length file) × (name ≤ length names)
 
 abbrev μ-loop : tie.MeasureT-loop
-μ-loop file names count tally₀ at₀ name₀ i₀ t10 tally at name i = count - i
+μ-loop file names call title count tally₀ at₀ name₀ i₀ tally at name i = count - i
 
 word-at-requires : tie.Need-word-at-requires Inv-loop μ-loop
 word-at-requires c κs = search needs
@@ -64,9 +64,6 @@ damaged-requires-2 c κs = search needs
 returns-2 : tie.Need-returns-2 Inv-loop μ-loop
 returns-2 c = search needs
 
-slice-aggregate-tally : tie.Need-slice-aggregate-tally Inv-loop μ-loop
-slice-aggregate-tally c = search needs
-
 tally-requires : tie.Need-tally-requires Inv-loop μ-loop
 tally-requires c κs = search needs
 
@@ -97,6 +94,5 @@ replay-spec =
     loop-again
     damaged-requires-2
     returns-2
-    slice-aggregate-tally
     tally-requires
     returns-3)
