@@ -22,7 +22,8 @@ use Rattle.signature.proofs.Places.{pool-small}
 use Rattle.expected.specs.Asked.{in-words, Asked}
 use Rattle.expected.proofs.Views as views
 use Rattle.functions.specs.Functions.{All-asked-here}
-use Rattle.projection.specs.Asked.{Behind, All, Wanted}
+use Rattle.projection.specs.Asked.{Behind, Wanted}
+use Rattle.projected.specs.Asked.{All}
 use Rattle.projection.proofs.WholeLaws.{same-names, as-many, words-ok}
 
 module _ {image : List ℕ} {l : Layout} {start types : ℕ} (w : Wanted image l start types) {n : ℕ} (is : n ≡ getD (pool-words image l) (start + 1) 0) where

@@ -1,7 +1,7 @@
 -- The whole projection by its steps. Assumes nothing.
 use Prim.Native.Nat.{ℕ, _<_, _^_}
 use mathlib.Core.Path.{_≡_, refl, sym, ap, ap₂, _∙_}
-use mathlib.Core.Bool.{Bool, true, false, true≢false}
+use mathlib.Core.Bool.{Bool, true, false}
 use mathlib.Core.List.{List, [], _∷_, map}
 use mathlib.Core.Option.{Option, none, some}
 use native.Mathlib.Omega.{arith}
@@ -19,19 +19,19 @@ use Rattle.rules.specs.Project.{as-message, as-implementation, find-implementat
 use Rattle.rules.specs.Output.{functions-words, signatures-words}
 use Rattle.rules.specs.Answer.{project-call}
 use Rattle.answers.specs.declared.answer.Outcome.{Outcome}
-use Rattle.answers.specs.Refusals.{refusal-of}
 use Rattle.answers.specs.Answers.{Comes}
 use Rattle.answers.proofs.Calls.{Accepted, comes-err, comes-ok}
 use Rattle.answers.proofs.Passes.{length-fits}
 use Rattle.layout.specs.declared.Layout.{Layout}
 use Rattle.layout.specs.Opens.{Opens}
 use Rattle.laws_answers.specs.Answers.{project-bound}
-use Rattle.outcomes.specs.Outcomes.{Passes-agrees, Passes, Comes-to}
+use Rattle.outcomes.specs.Outcomes.{Comes-to}
 use Rattle.expected.specs.Asked.{in-words}
 use Rattle.statements.specs.Coming.{came-err, came-ok}
-use Rattle.projection.specs.Steps.{list-words, tested-words, found-words}
+use Rattle.projected.specs.Steps.{list-words}
+use Rattle.projection.specs.Steps.{tested-words, found-words}
 use Rattle.projection.specs.Asked.{Few}
-use Rattle.projection.proofs.Resolved.{resolved, first, none-left}
+use Rattle.projected.proofs.Resolved.{resolved, first, none-left}
 
 -- expected signatures have their functions' names
 pub same-names : (schema : CompiledSchema) (seen : List (Param ResolvedType)) (fs : List TraitFnDef) {v : ℕ} {ss : List PortableSignature} → expected-list schema seen fs ≡ ok (v, ss) → map (λ f. f .name) fs ≡ map (λ s. s .name) ss
@@ -64,21 +64,6 @@ pub words-ok : (r : Result (ℕ × List PortableSignature)) {v : ℕ} {ws : List
 unfolding _>>=_
 words-ok (err x) h = absurd (let z : _≡_ {A = ℕ} 0 1 = cc in omega arith)
 words-ok (ok p) {v} {ws} h = let m : _≡_ {A = ℕ × List ℕ} (p .0, signatures-words (p .1)) (v, ws) = cc in (p .1, ap (λ (n : ℕ). ok (n, p .1)) (ap (λ (x : ℕ × List ℕ). x .0) m))
-
--- a test that was not passed, or was
-pub not-passed : {test : Result (Unit {0})} {r : Outcome} → Passes test r → r .ok ≡ false → test ≡ err (refusal-of (r .refusal))
-not-passed {test} {r} p n = go test (p .is)
-  where
-    go : (t : Result (Unit {0})) → Passes-agrees t r → t ≡ err (refusal-of (r .refusal))
-    go (err e) h = ap err (sym (h .1))
-    go (ok u) h = absurd (true≢false (sym h ∙ n))
-
-pub was-passed : {test : Result (Unit {0})} {r : Outcome} → Passes test r → r .ok ≡ true → test ≡ ok tt
-was-passed {test} {r} p y = go test (p .is)
-  where
-    go : (t : Result (Unit {0})) → Passes-agrees t r → t ≡ ok tt
-    go (err e) h = absurd (true≢false (sym y ∙ h .0))
-    go (ok u) h = refl
 
 module _ (impl : ImplDef) (message : MessageDef) (ss : List PortableSignature) where
   abbrev strangers : Result (Unit {0})

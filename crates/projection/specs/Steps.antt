@@ -1,35 +1,19 @@
--- The rules' projection by its steps, as words.
+-- The rules' projection behind a trait and a message, as words.
 use Prim.Native.Nat.{ℕ}
 use mathlib.Core.List.{List, [], map}
 use Rattle.rules.specs.Syntax.{MessageDef, TraitDef, ImplDef, CompiledSchema}
-use Rattle.rules.specs.Refusal.{Result, ok, _>>=_, or-refuse, in-function}
+use Rattle.rules.specs.Refusal.{Result, ok, _>>=_}
 use Rattle.rules.specs.Signatures.{PortableSignature, expected-functions}
-use Rattle.rules.specs.CheckSignature.{check-signature}
-use Rattle.rules.specs.Bodies.{PortableFunction, project-function}
-use Rattle.rules.specs.Project.{no-repeat, no-stranger, find-function, project-list}
-use Rattle.rules.specs.Output.{function-words, functions-words}
+use Rattle.rules.specs.Project.{no-repeat, no-stranger}
+use Rattle.projected.specs.Steps.{list-words}
 
 module _ (impl : ImplDef) (message : MessageDef) where
-  -- one expected function: 11, its signature, 12, its body
-  unfoldable pub project-one : PortableSignature → Result PortableFunction
-  project-one s = do
-    actual ← or-refuse (find-function (s .name) (impl .functions)) (in-function 11 (s .name))
-    _ ← check-signature actual s
-    project-function actual s message impl
-
-  unfoldable pub one-words : PortableSignature → Result (List ℕ)
-  one-words s = project-one s >>= λ f. ok (function-words f)
-
-  -- all of them, their count first
-  unfoldable pub list-words : List PortableSignature → Result (List ℕ)
-  list-words ss = project-list impl message ss >>= λ fs. ok (functions-words fs)
-
   -- 9 and 10 before them
   unfoldable pub tested-words : List PortableSignature → Result (List ℕ)
   tested-words ss = do
     _ ← no-repeat [] (impl .functions)
     _ ← no-stranger (map (λ s. s .name) ss) (impl .functions)
-    list-words ss
+    list-words impl message ss
 
   -- 6, 8 and 7 before all of it; the visits besides
   unfoldable pub found-words : CompiledSchema → TraitDef → Result (ℕ × List ℕ)

@@ -1,7 +1,7 @@
 // An implementation, its trait and its message, found in the pool.
-use crate::parts::Parts;
 use answers::answer::Outcome;
 use layout::Layout;
+use projected::parts::Parts;
 ghost use lib.ListN.{length};
 ghost use Rattle.rules.specs.Syntax.{MessageDef};
 ghost use Rattle.layout.specs.Rows.{Cut};
@@ -9,7 +9,8 @@ ghost use Rattle.answers.specs.Answers.{Comes};
 ghost use Rattle.outcomes.specs.Outcomes.{Comes-to};
 ghost use Rattle.expected.specs.Asked.{Asked};
 ghost use Rattle.projection.specs.Steps.{tested-words, found-words};
-ghost use Rattle.projection.specs.Asked.{Stand, Wanted, Behind, Few};
+ghost use Rattle.projected.specs.Asked.{Stand};
+ghost use Rattle.projection.specs.Asked.{Wanted, Behind, Few};
 
 // 9, then 10, then each function: the trait at `start` with the type arguments at `types`, whose signatures keep the bounds.
 fn project_tested(
@@ -37,7 +38,7 @@ fn project_tested(
     }
     let table = traits::view::view(image, l, start + 1 + 1, types + 1, n);
     let limit = out.len();
-    crate::list::project_list(image, l, asked, &table[..66 * n], parts, out, limit, 0)
+    projected::list::project_list(image, l, asked, &table[..66 * n], parts, out, limit, 0)
 }
 
 // 6, 8 and 7 of the trait at `start` come before 9 and 10; the message's fields stand at `fields`, the target type at `target`.
@@ -57,7 +58,7 @@ pub fn project_found(
     if !e.ok {
         return e;
     }
-    let functions = crate::parts::functions_start(image, l, types);
+    let functions = projected::parts::functions_start(image, l, types);
     let parts = Parts {
         functions,
         fields,

@@ -16,9 +16,6 @@ ghost use Rattle.layout.specs.Opens.{Opens};
 ghost use Rattle.answers.specs.Answers.{answer-of, Comes};
 
 pub mod found;
-pub mod list;
-pub mod one;
-pub mod parts;
 
 // The functions' words, as far as they fit. 3, then 4, then 5, then what the trait's functions come to.
 pub fn project(image: &[u8], l: Layout, number: TypeId, out: &mut [u8]) -> Outcome

@@ -6,7 +6,8 @@ use borrow.Author.Tests.{not-true, not-false}
 use lib.ListN.{length}
 use lib.Seq.{length-take-le}
 use Rattle.statements.specs.Coming.{comes-same, comes-err}
-use Rattle.projection.proofs.WholeLaws.{not-passed, was-passed, has-repeat, has-stranger, all-tested}
+use Rattle.projected.proofs.Passing.{not-passed, was-passed}
+use Rattle.projection.proofs.WholeLaws.{has-repeat, has-stranger, all-tested}
 use Rattle.projection.proofs.WantedParts.{few, given, asked-at, all, against-names, start-small, types-small}
 use Rattle.projection.proofs.found.project_tested.Statement.{statement}
 use Rattle.projection.proofs.found.project_tested.Tie as tie

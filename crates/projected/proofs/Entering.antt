@@ -19,8 +19,8 @@ use Rattle.signature.proofs.Places.{pool-small}
 use Rattle.entering.specs.declared.Entered.{Entered}
 use Rattle.entering.specs.declared.Returned.{Returned}
 use Rattle.entering.specs.Entered.{Entered-done, Entered-agrees, Entered-says, Returned-done, Returned-agrees, Returned-says}
-use Rattle.projection.specs.Asked.{One}
-use Rattle.projection.proofs.Resolved.{Resolved, resolved}
+use Rattle.projected.specs.Asked.{One}
+use Rattle.projected.proofs.Resolved.{Resolved, resolved}
 
 -- as many parameters as expressions
 module _ (schema : CompiledSchema) (seen : List (Param ResolvedType)) where

@@ -1,4 +1,4 @@
--- `projection::list::project_list` meets its contract. The loop's invariant: those made are written, and the signatures that are left decide. Assumes nothing.
+-- `projected::list::project_list` meets its contract. The loop's invariant: those made are written, and the signatures that are left decide. Assumes nothing.
 use borrow.Author.Needs.{needs}
 use Prim.Native.Nat.{_-_}
 use mathlib.Core.Path.{_≡_, refl, _∙_}
@@ -6,10 +6,10 @@ use native.Mathlib.Omega.{arith}
 use borrow.Author.Tests.{not-true, not-false}
 use lib.ListN.{length}
 use Rattle.signature.proofs.Places.{pool-small}
-use Rattle.projection.specs.Asked.{All}
-use Rattle.projection.proofs.ListTurns.{Left, start, turn-here, turn-refused, turn-goes, ended}
-use Rattle.projection.proofs.list.project_list.Statement.{statement}
-use Rattle.projection.proofs.list.project_list.Tie as tie
+use Rattle.projected.specs.Asked.{All}
+use Rattle.projected.proofs.ListTurns.{Left, start, turn-here, turn-refused, turn-goes, ended}
+use Rattle.projected.proofs.list.project_list.Statement.{statement}
+use Rattle.projected.proofs.list.project_list.Tie as tie
 
 abbrev Inv-loop : tie.InvT-loop
 Inv-loop image l at params parts out₀ limit to count place₀ next₀ i₀ out place next i = (length out ≡ length out₀) × ((h : All image l params at) → Left h parts limit place₀ out₀ i next place out)

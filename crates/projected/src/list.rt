@@ -7,8 +7,8 @@ ghost use lib.ListN.{length};
 ghost use Rattle.rules.specs.Syntax.{MessageDef, ImplDef};
 ghost use Rattle.layout.specs.Rows.{Cut};
 ghost use Rattle.outcomes.specs.Outcomes.{Comes-to};
-ghost use Rattle.projection.specs.Steps.{list-words};
-ghost use Rattle.projection.specs.Asked.{Stand, All};
+ghost use Rattle.projected.specs.Steps.{list-words};
+ghost use Rattle.projected.specs.Asked.{Stand, All};
 
 // Their count, and each one of the trait functions at `at`.
 pub fn project_list(

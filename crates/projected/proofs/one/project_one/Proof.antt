@@ -1,13 +1,13 @@
--- `projection::one::project_one` meets its contract. Assumes nothing.
+-- `projected::one::project_one` meets its contract. Assumes nothing.
 use borrow.Author.Needs.{needs}
 use mathlib.Core.Path.{refl, sym, ap, _∙_}
 use native.Mathlib.Omega.{arith}
 use borrow.Author.Tests.{not-true, not-false}
 use Rattle.answers.specs.Refusals.{refusal-of}
-use Rattle.projection.proofs.Entering.{small, params-here, few, table, return-here, holds}
-use Rattle.projection.proofs.OneFunction.{missing, hit, not-alike, alike, in-context, body-at, name-is}
-use Rattle.projection.proofs.one.project_one.Statement.{statement}
-use Rattle.projection.proofs.one.project_one.Tie as tie
+use Rattle.projected.proofs.Entering.{small, params-here, few, table, return-here, holds}
+use Rattle.projected.proofs.OneFunction.{missing, hit, not-alike, alike, in-context, body-at, name-is}
+use Rattle.projected.proofs.one.project_one.Statement.{statement}
+use Rattle.projected.proofs.one.project_one.Tie as tie
 
 pub project-one-spec : {M : Type 1} → statement M
 project-one-spec =

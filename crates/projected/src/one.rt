@@ -9,8 +9,8 @@ ghost use lib.ListN.{length};
 ghost use Rattle.rules.specs.Syntax.{MessageDef, ImplDef};
 ghost use Rattle.layout.specs.Rows.{Cut};
 ghost use Rattle.outcomes.specs.Outcomes.{Comes-to};
-ghost use Rattle.projection.specs.Steps.{one-words};
-ghost use Rattle.projection.specs.Asked.{Stand, One};
+ghost use Rattle.projected.specs.Steps.{one-words};
+ghost use Rattle.projected.specs.Asked.{Stand, One};
 
 // The trait function at `at`, with these type parameters in view: 11, its signature, 12, its body.
 pub fn project_one(

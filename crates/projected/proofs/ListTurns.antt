@@ -20,11 +20,11 @@ use Rattle.outcomes.specs.Outcomes.{Comes-to}
 use Rattle.signature.proofs.ParamLoop.{each-snoc}
 use Rattle.statements.specs.Coming.{comes-err, comes-ok, came-err, came-ok}
 use Rattle.functions.specs.Functions.{Asked-here}
-use Rattle.projection.specs.declared.parts.Parts.{Parts}
-use Rattle.projection.specs.Steps.{one-words, list-words}
-use Rattle.projection.specs.Asked.{Stand, One, All}
-use Rattle.projection.proofs.Resolved.{First, first, none-left}
-use Rattle.projection.proofs.StepLaws.{prepend, prepend-none, prepend-err, prepend-more, list-refused, list-more, list-done, list-stopped}
+use Rattle.projected.specs.declared.parts.Parts.{Parts}
+use Rattle.projected.specs.Steps.{one-words, list-words}
+use Rattle.projected.specs.Asked.{Stand, One, All}
+use Rattle.projected.proofs.Resolved.{First, first, none-left}
+use Rattle.projected.proofs.StepLaws.{prepend, prepend-none, prepend-err, prepend-more, list-refused, list-more, list-done, list-stopped}
 
 module _ {image : List ℕ} {l : Layout} {params : List ℕ} {at : ℕ} (h : All image l params at) (parts : Parts) (limit from : ℕ) (old : List ℕ) where
   abbrev Functions : List TraitFnDef → ℕ → Type 0

@@ -25,12 +25,12 @@ use Rattle.traits.proofs.Has.{Has, has, lacks}
 use Rattle.bodies.specs.Made.{body-words-of}
 use Rattle.statements.specs.Coming.{comes-same, comes-err, comes-behind}
 use Rattle.functions.specs.Functions.{Function-here}
-use Rattle.projection.specs.declared.parts.Parts.{Parts}
-use Rattle.projection.specs.Steps.{one-words}
-use Rattle.projection.specs.Asked.{Stand, One}
-use Rattle.projection.proofs.StepLaws.{found-name, context, one-missing, one-refused, one-goes}
-use Rattle.projection.proofs.WholeLaws.{not-passed, was-passed}
-use Rattle.projection.proofs.Entering.{same-name}
+use Rattle.projected.specs.declared.parts.Parts.{Parts}
+use Rattle.projected.specs.Steps.{one-words}
+use Rattle.projected.specs.Asked.{Stand, One}
+use Rattle.projected.proofs.StepLaws.{found-name, context, one-missing, one-refused, one-goes}
+use Rattle.projected.proofs.Passing.{not-passed, was-passed}
+use Rattle.projected.proofs.Entering.{same-name}
 
 module _ {image : List ℕ} {l : Layout} {params : List ℕ} {at : ℕ} (k : One image l params at) (impl : ImplDef) (message : MessageDef)
     {name : ℕ} (named : name ≡ k .here .tree .name) {g : Found} (found : Finds (Function-here image l) (find-function name (impl .functions)) g) where

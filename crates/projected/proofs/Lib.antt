@@ -1,0 +1,8 @@
+-- Laws of functions that are projected.
+pub mod Resolved
+pub mod StepLaws
+pub mod TypeArgs
+pub mod Passing
+pub mod Entering
+pub mod OneFunction
+pub mod ListTurns
