@@ -38,7 +38,7 @@ enum {
     FRUSCALITU_WORDS
 };
 
-/* Whether the image is readable: the two calls below answer 2 exactly where it is not. Writes nothing. */
+/* Whether the image is readable. Where it is not, the two calls below answer 2, or 1 where the detail is under 576 bytes. Writes nothing. */
 bool fruscalitu_readable(const uint8_t *image, size_t image_length);
 
 /* The signatures that the trait of an implementation asks for.
