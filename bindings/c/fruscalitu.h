@@ -74,7 +74,6 @@ uint32_t fruscalitu_expected_signatures(const uint8_t *image, size_t image_lengt
                                         size_t output_length, uint8_t *detail, size_t detail_length, uint32_t *answer,
                                         size_t answer_length);
 
-#ifdef FRUSCALITU_PROJECT_IMPL /* to be defined where the library has the call; it is still to come */
 /* The functions of an implementation, checked against its trait and typed.
  *
  * Parameters, result and buffers are as above, but that 6, 20, 21 and 22 write detail. The numbers, in their order:
@@ -111,7 +110,6 @@ uint32_t fruscalitu_expected_signatures(const uint8_t *image, size_t image_lengt
 uint32_t fruscalitu_project_impl(const uint8_t *image, size_t image_length, uint32_t number, uint8_t *output,
                                  size_t output_length, uint8_t *detail, size_t detail_length, uint32_t *answer,
                                  size_t answer_length);
-#endif
 
 #ifdef __cplusplus
 }

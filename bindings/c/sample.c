@@ -37,11 +37,9 @@ int main(int argc, char **argv) {
     if (strcmp(argv[1], "expected_signatures") == 0) {
         fruscalitu_expected_signatures(image, length, number, output, sizeof output, detail, sizeof detail, answer,
                                        FRUSCALITU_WORDS);
-#ifdef FRUSCALITU_PROJECT_IMPL
     } else if (strcmp(argv[1], "project_impl") == 0) {
         fruscalitu_project_impl(image, length, number, output, sizeof output, detail, sizeof detail, answer,
                                 FRUSCALITU_WORDS);
-#endif
     } else {
         return fail("no such call");
     }

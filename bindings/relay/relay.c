@@ -73,11 +73,9 @@ uint32_t fruscalitu_expected_signatures(const uint8_t *image, size_t image_lengt
                answer_length);
 }
 
-#ifdef FRUSCALITU_PROJECT_IMPL
 uint32_t fruscalitu_project_impl(const uint8_t *image, size_t image_length, uint32_t number, uint8_t *output,
                                  size_t output_length, uint8_t *detail, size_t detail_length, uint32_t *answer,
                                  size_t answer_length) {
     return ask(PROJECT_IMPL, image, image_length, number, output, output_length, detail, detail_length, answer,
                answer_length);
 }
-#endif

@@ -25,11 +25,9 @@ int main(void) {
             result = fruscalitu_expected_signatures(image, q.image, q.number, output, q.output, detail, q.detail, answer,
                                                     q.answer);
             break;
-#ifdef FRUSCALITU_PROJECT_IMPL
         case PROJECT_IMPL:
             result = fruscalitu_project_impl(image, q.image, q.number, output, q.output, detail, q.detail, answer, q.answer);
             break;
-#endif
         default:
             fputs("server: no such call\n", stderr);
             return 2;

@@ -50,7 +50,6 @@ impl<'a> Reader<'a> {
     }
 }
 
-#[cfg(feature = "project_impl")]
 impl Reader<'_> {
     fn function(&mut self) -> Option<()> {
         self.signature()?;
@@ -116,7 +115,6 @@ fn main() -> Result<(), Box<dyn Error>> {
     print(&image, &fruscalitu::expected_signatures(&image, number)?, |words| words.signature())
         .ok_or("no signatures")?;
 
-    #[cfg(feature = "project_impl")]
     {
         println!("project_impl");
         print(&image, &fruscalitu::project_impl(&image, number)?, |words| words.function()).ok_or("no functions")?;

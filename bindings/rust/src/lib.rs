@@ -49,7 +49,6 @@ pub fn expected_signatures(image: &[u8], number: TypeId) -> Result<Accepted, Por
 }
 
 /// Validates and lowers all functions of one trait implementation.
-#[cfg(feature = "project_impl")]
 pub fn project_impl(image: &[u8], number: TypeId) -> Result<Accepted, PortableFunctionError> {
     call::ask(linked::Call::ProjectImpl, image, number)
 }

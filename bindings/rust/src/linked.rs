@@ -13,7 +13,6 @@ const STACK_BYTES: usize = 16 << 20;
 /// One of the library's two calls.
 #[derive(Debug, Clone, Copy, PartialEq, Eq)]
 pub enum Call {
-    #[cfg(feature = "project_impl")]
     ProjectImpl,
     ExpectedSignatures,
 }
@@ -33,7 +32,6 @@ type Exported = unsafe extern "C" fn(
 
 extern "C" {
     // The crate `exports` has the statements.
-    #[cfg(feature = "project_impl")]
     fn fruscalitu_project_impl(
         image: *const u8,
         image_length: usize,
@@ -79,7 +77,6 @@ impl Call {
 
     fn ask_here(self, image: &[u8], number: u32, output: &mut [u8], detail: &mut [u8]) -> [u32; ANSWER_WORDS] {
         let exported: Exported = match self {
-            #[cfg(feature = "project_impl")]
             Call::ProjectImpl => fruscalitu_project_impl,
             Call::ExpectedSignatures => fruscalitu_expected_signatures,
         };

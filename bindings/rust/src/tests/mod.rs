@@ -7,7 +7,6 @@ use crate::linked::Call;
 use crate::{call, decode, Accepted, PortableFunctionError, TypeId};
 
 const CALLS: &[Call] = &[
-    #[cfg(feature = "project_impl")]
     Call::ProjectImpl,
     Call::ExpectedSignatures,
 ];
@@ -20,7 +19,6 @@ fn the_sample_has_its_signatures() {
     assert_eq!(answer, Ok(Accepted { words: vec![1, 0, 0, 1, 1], visits: 1 }));
 }
 
-#[cfg(feature = "project_impl")]
 #[test]
 fn the_sample_has_its_body() {
     let answer = crate::project_impl(SAMPLE, TypeId(2));
@@ -85,7 +83,6 @@ fn stored_cases_are_answered_alike() {
     let mut asked = 0;
     for case in stored::cases() {
         let call = match case.call {
-            #[cfg(feature = "project_impl")]
             0 => Call::ProjectImpl,
             1 => Call::ExpectedSignatures,
             _ => continue,
