@@ -79,7 +79,7 @@ fn answer(call: u32, image: &[u8], number: TypeId, output: &mut [u8], detail: &m
 // Asks with the two lent buffers.
 fn ask(file: &[u8], c: Case, output: &mut [u8], detail: &mut [u8]) -> Compared {
     let image = crate::case::bytes(file, c.image);
-    let a = answer(c.call, image, TypeId(c.row), output, detail);
+    let a = answer(c.call, image, c.row, output, detail);
     Compared {
         fields: same_fields(file, c.fields, a),
         output: holds(output, crate::case::bytes(file, c.written), OUTPUT_FILL),

@@ -1,4 +1,5 @@
 // A stored case: twelve words, then the bytes of the image, of the output and of the detail (vectors/README.md).
+use rules::ids::TypeId;
 ghost use mathlib.Core.Path.{_≡_};
 ghost use Prim.Native.Nat.{_≤_, min};
 ghost use lib.ListN.{length};
@@ -18,7 +19,7 @@ pub struct Part {
 pub struct Case {
     pub ok: bool,
     pub call: u32,
-    pub row: u32,
+    pub row: TypeId,
     pub output: usize,
     pub detail: usize,
     pub fields: usize,
@@ -42,7 +43,7 @@ fn no_case() -> Case
     Case {
         ok: false,
         call: 0,
-        row: 0,
+        row: TypeId(0),
         output: 0,
         detail: 0,
         fields: 0,
@@ -80,7 +81,7 @@ pub fn read(file: &[u8], at: usize) -> Case
     Case {
         ok: true,
         call: words::word_at(file, at),
-        row: words::word_at(file, at + 4),
+        row: TypeId(words::word_at(file, at + 4)),
         output,
         detail,
         fields: at + 20,
