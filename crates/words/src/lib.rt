@@ -5,25 +5,39 @@ ghost use lib.ListN.{length, getD};
 ghost use Rattle.words.specs.Words.{word-at};
 ghost use Rattle.words.specs.Puts.{put};
 
+// A byte of the slice.
+fn byte(image: &[u8], i: usize) -> u32
+    requires { ⌜ i < length (now image) ⌝ }
+    ensures { λ r. ⌜ (r ≡ getD (now (image .entry)) i 0) × (r < 256) ⌝ }
+{
+    image[i] as u32
+}
+
 // The byte at i, or 0 past the end.
-pub fn byte_at(image: &[u8], i: usize) -> u32
+fn byte_at(image: &[u8], i: usize) -> u32
     ensures { λ r. ⌜ (r ≡ getD (now (image .entry)) i 0) × (r < 256) ⌝ }
 {
     if i < image.len() { image[i] as u32 } else { 0 }
 }
 
-// The word at a byte's place; bytes past the end count as 0.
+// The word at a byte's place; bytes past the end count as 0. One test for a whole word lets the four bytes be one load.
 pub fn word_at(image: &[u8], at: usize) -> u32
     ensures { λ r. ⌜ r ≡ word-at (now (image .entry)) at ⌝ }
 {
-    if at < image.len() {
-        byte_at(image, at)
-            + 256 * byte_at(image, at + 1)
-            + 65536 * byte_at(image, at + 2)
-            + 16777216 * byte_at(image, at + 3)
-    } else {
-        0
+    let n = image.len();
+    if n <= at {
+        return 0;
     }
+    if 4 <= n - at {
+        return byte(image, at)
+            + 256 * byte(image, at + 1)
+            + 65536 * byte(image, at + 2)
+            + 16777216 * byte(image, at + 3);
+    }
+    byte_at(image, at)
+        + 256 * byte_at(image, at + 1)
+        + 65536 * byte_at(image, at + 2)
+        + 16777216 * byte_at(image, at + 3)
 }
 
 // Writes a word where it ends at the limit or before, and says where the next goes.
