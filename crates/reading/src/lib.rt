@@ -33,7 +33,7 @@ pub fn section_word(image: &[u8], s: Section, at: usize) -> u32
     if s.len <= at {
         return 0;
     }
-    words::word_at(image, s.start + 4 * at)
+    words::whole_word(image, s.start + 4 * at)
 }
 
 // Any word.

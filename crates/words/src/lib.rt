@@ -13,6 +13,17 @@ fn byte(image: &[u8], i: usize) -> u32
     image[i] as u32
 }
 
+// The word at a byte's place, all inside: nothing is tested, so that the four bytes can be one load.
+pub fn whole_word(image: &[u8], at: usize) -> u32
+    requires { ⌜ at + 4 ≤ length (now image) ⌝ }
+    ensures { λ r. ⌜ r ≡ word-at (now (image .entry)) at ⌝ }
+{
+    byte(image, at)
+        + 256 * byte(image, at + 1)
+        + 65536 * byte(image, at + 2)
+        + 16777216 * byte(image, at + 3)
+}
+
 // The byte at i, or 0 past the end.
 fn byte_at(image: &[u8], i: usize) -> u32
     ensures { λ r. ⌜ (r ≡ getD (now (image .entry)) i 0) × (r < 256) ⌝ }
@@ -20,7 +31,7 @@ fn byte_at(image: &[u8], i: usize) -> u32
     if i < image.len() { image[i] as u32 } else { 0 }
 }
 
-// The word at a byte's place; bytes past the end count as 0. One test for a whole word lets the four bytes be one load.
+// The word at a byte's place; bytes past the end count as 0.
 pub fn word_at(image: &[u8], at: usize) -> u32
     ensures { λ r. ⌜ r ≡ word-at (now (image .entry)) at ⌝ }
 {
@@ -29,10 +40,7 @@ pub fn word_at(image: &[u8], at: usize) -> u32
         return 0;
     }
     if 4 <= n - at {
-        return byte(image, at)
-            + 256 * byte(image, at + 1)
-            + 65536 * byte(image, at + 2)
-            + 16777216 * byte(image, at + 3);
+        return whole_word(image, at);
     }
     byte_at(image, at)
         + 256 * byte_at(image, at + 1)

@@ -13,4 +13,4 @@ section-word-spec =
     (λ c. search needs)
     (λ c. search needs)
     (λ c κs. search needs)
-    (λ c. c .word-at .ensures ∙ section-at (c .before .before .before .before .before .pre) _ (c .before .before .if1 .left)))
+    (λ c. c .whole-word .ensures ∙ section-at (c .before .before .before .before .before .pre) _ (c .before .before .if1 .left)))
