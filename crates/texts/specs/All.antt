@@ -55,6 +55,11 @@ module _ (p : ℕ → Bool) where
   pub all-more : (i : ℕ) → all-below i p ≡ true → p i ≡ true → all-below (i + 1) p ≡ true
   all-more i e f = sym (all-step i) ∙ rw (e, f)
 
+  -- each by itself
+  pub all-true : (n : ℕ) → ((i : ℕ) → i < n → p i ≡ true) → all-below n p ≡ true
+  all-true zero h = all-none
+  all-true (suc n) h = rw (← add-one) (all-more n (all-true n (λ i l. h i (omega arith))) (h n (omega arith)))
+
   -- and what one shows at its end
   pub all-done : (i n : ℕ) → i ≤ n → n ≤ i → all-below i p ≡ true → true ≡ all-below n p
   all-done i n h k e = let m : i ≡ n = omega arith in rw m at (sym e)

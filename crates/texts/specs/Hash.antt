@@ -1,6 +1,8 @@
 -- A number made of a list: lists with different numbers differ.
 use mathlib.Core.Path.{_≡_, refl, ap, _∙_}
-use mathlib.Core.Bool.{false}
+use mathlib.Core.Bool.{Bool, true, false, true≢false, _||_}
+use lib.Dec.{eqb}
+use borrow.Author.Tests.{eqb-false}
 use mathlib.Core.List.{List, [], _∷_}
 use Prim.Native.Nat.{ℕ, zero, suc, _+_, _*_, _%_, _<_, _≤_}
 use lib.ListN.{length, getD, set, drop, drop-of-length-le, replicate}
@@ -55,3 +57,12 @@ pub blank-all : (m : ℕ) → Blank 0 (replicate m 0)
 blank-all zero i l = refl
 blank-all (suc m) zero l = refl
 blank-all (suc m) (suc i) l = blank-all m i (omega arith)
+
+-- none of the first n numbers is h
+abbrev pub Apart : List ℕ → ℕ → ℕ → Type 0
+Apart hs n h = (j : ℕ) → j < n → getD hs j 0 ≡ h → ⊥
+
+-- one number more was compared
+pub apart-more : (hs : List ℕ) (j h : ℕ) (any : Bool) → (any ≡ false → Apart hs j h) → any || eqb (getD hs j 0) h ≡ false → Apart hs (j + 1) h
+apart-more hs j h true below e = absurd (true≢false e)
+apart-more hs j h false below e = below-more (λ (k : ℕ). getD hs k 0 ≡ h → ⊥) j (below refl) (eqb-false _ _ e)

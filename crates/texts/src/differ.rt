@@ -4,11 +4,12 @@ use crate::row::text_of;
 use crate::same::same_text;
 use rules::ids::NameId;
 ghost use mathlib.Core.Path.{_≡_};
+ghost use mathlib.Core.Bool.{false};
 ghost use Prim.Native.Nat.{_+_, _≤_, _<_};
 ghost use lib.ListN.{length};
 ghost use Rattle.rules.specs.Words.{same};
 ghost use Rattle.texts.specs.Rows.{row-text, new-row, rows-differ};
-ghost use Rattle.texts.specs.Hash.{Hashes};
+ghost use Rattle.texts.specs.Hash.{Hashes, Apart};
 
 // Whether a name has the text of an earlier one.
 fn clash(image: &[u8], names_start: usize, hs: &[u32], name: NameId, earlier: NameId) -> bool
@@ -26,8 +27,22 @@ fn clash(image: &[u8], names_start: usize, hs: &[u32], name: NameId, earlier: Na
     )
 }
 
-// Whether no earlier name has the text of this one.
-fn is_new(image: &[u8], names_start: usize, hs: &[u32], name: NameId) -> bool
+// Whether one of the first n numbers is h. It has no early end, so that many can be compared at once.
+fn among(hs: &[u32], n: usize, h: u32) -> bool
+    requires { ⌜ n ≤ length (now hs) ⌝ }
+    ensures { λ r. ⌜ (r ≡ false → Apart (now (hs .entry)) n h) ⌝ }
+{
+    let mut any = false;
+    let mut j = 0;
+    while j < n {
+        any = any | (hs[j] == h);
+        j += 1;
+    }
+    any
+}
+
+// Whether no earlier name has the text of this one: each is compared.
+fn no_clash(image: &[u8], names_start: usize, hs: &[u32], name: NameId) -> bool
     requires { ⌜ («names_start» ≤ 65536) × (name .0 < length (now hs)) × Hashes (now image) «names_start» (name .0 + 1) (now hs) ⌝ }
     ensures { λ r. ⌜ r ≡ new-row (now (image .entry)) «names_start» (name .0) ⌝ }
 {
@@ -40,6 +55,19 @@ fn is_new(image: &[u8], names_start: usize, hs: &[u32], name: NameId) -> bool
         j += 1;
     }
     true
+}
+
+// The same, by the numbers where none is equal.
+fn is_new(image: &[u8], names_start: usize, hs: &[u32], name: NameId) -> bool
+    requires { ⌜ («names_start» ≤ 65536) × (name .0 < length (now hs)) × Hashes (now image) «names_start» (name .0 + 1) (now hs) ⌝ }
+    ensures { λ r. ⌜ r ≡ new-row (now (image .entry)) «names_start» (name .0) ⌝ }
+{
+    let i = name.0 as usize;
+    let h = hs[i];
+    if !among(hs, i, h) {
+        return true;
+    }
+    no_clash(image, names_start, hs, name)
 }
 
 fn all_new(image: &[u8], names_start: usize, names: usize, hs: &[u32]) -> bool

@@ -1,60 +1,32 @@
-use mathlib.Core.Path.{_≡_, sym}
-use mathlib.Core.Bool.{Bool, true, not}
-use mathlib.Core.List.{List}
-use Prim.Native.Nat.{ℕ, _-_, _≤_}
+use mathlib.Core.Path.{_≡_, sym, ap, _∙_}
+use mathlib.Core.Bool.{not}
 use native.Mathlib.Omega.{arith}
 use borrow.Author.Needs.{needs}
+use borrow.Author.Tests.{not-true}
 use denote.Ref.{now}
-use Rattle.rules.specs.Words.{same}
-use Rattle.texts.specs.All.{all-below, all-none, all-done, all-false, all-more}
+use Rattle.texts.specs.All.{all-true}
 use Rattle.texts.specs.Rows.{row-text, new-row}
+use Rattle.texts.specs.Hash.{hash-differ}
 use Rattle.texts.proofs.differ.is_new.Statement.{statement}
 use Rattle.texts.proofs.differ.is_new.Tie as tie
 
-abbrev apart : List ℕ → ℕ → ℕ → ℕ → Bool
-apart image names-start i j = not (same (row-text image names-start j) (row-text image names-start i))
-
-abbrev Inv-loop : tie.InvT-loop
-Inv-loop image names-start hs name i j₀ j = (j ≤ i) × (all-below j (apart image names-start i) ≡ true)
-
-abbrev μ-loop : tie.MeasureT-loop
-μ-loop image names-start hs name i j₀ j = i - j
-
-clash-requires : tie.Need-clash-requires Inv-loop μ-loop
-clash-requires c κs = let b = c .before .before .before .before .before in (b .pre .0, omega arith, b .pre .1, b .pre .2)
-
-returns : tie.Need-returns Inv-loop μ-loop
+-- different numbers: different texts
+returns : tie.Need-returns
 unfolding new-row
 returns c =
-    let l = c .before .before .before .loop in
-    let a = c .before .before .before .before .before .before .before .args in
-    sym (all-false (apart (now (a .image)) (a .names-start) (a .name .0)) (l .j) (a .name .0) (omega arith) (rw (← c .before .clash .ensures, c .if1 .taken)))
-
-loop-again : tie.Need-loop-again Inv-loop μ-loop
-loop-again c =
-    let l = c .before .before .before .loop in
-    let a = c .before .before .before .before .before .before .before .args in
-    (search needs, all-more (apart (now (a .image)) (a .names-start) (a .name .0)) (l .j) (l .inv .1) (rw (← c .before .clash .ensures, c .if1 .left)))
-
-returns-2 : tie.Need-returns-2 Inv-loop μ-loop
-unfolding new-row
-returns-2 c =
-    let l = c .before .loop in
-    let a = c .before .before .before .before .before .args in
-    all-done (apart (now (a .image)) (a .names-start) (a .name .0)) (l .j) (a .name .0) (omega arith) (omega arith) (l .inv .1)
+    let b = c .before .before .before .before .before .before in
+    let a = b .args in
+    let apart = c .before .among .ensures (not-true _ (c .if1 .taken)) in
+    sym (all-true _ (a .name .0) (λ j l. ap not (hash-differ _ _ (λ e. apart j l (b .pre .2 j (omega arith) ∙ e ∙ sym (b .pre .2 (a .name .0) (omega arith)))))))
 
 pub is-new-spec : {M : Type 1} → statement M
 is-new-spec =
     tie.close
     (tie.spec
-    Inv-loop
-    μ-loop
     (λ c. search needs)
-    (λ c. (search needs, all-none (apart _ _ _)))
     (λ c. search needs)
-    clash-requires
+    (λ c. search needs)
+    (λ c κs. search needs)
     returns
-    (λ c. search needs)
-    (λ c. search needs)
-    loop-again
-    returns-2)
+    (λ c κs. search needs)
+    (λ c. c .no-clash .ensures))
