@@ -43,7 +43,7 @@ pub fn project(image: &[u8], l: Layout, number: TypeId, out: &mut [u8]) -> Outco
     crate::found::project_found(image, l, t.start, types.next, m.start, target, out)
 }
 
-// The answer on a readable image: one pass that measures and touches nothing, and one that writes.
+// The answer on a readable image. The first pass keeps its words; where they are too many for that, a second one writes them.
 pub fn project_readable(
     image: &[u8],
     l: Layout,
@@ -54,14 +54,11 @@ pub fn project_readable(
     requires { ⌜ Cut (now image) l × Opens (now image) l × (576 ≤ length (now detail)) ⌝ }
     ensures { λ r. ⌜ ((s : CompiledSchema) → Open (now (image .entry)) l s → answer-of r (now (output .exit)) (now (detail .exit)) ≡ finished (project-call (number .0) s) (now (output .entry)) (now (detail .entry))) ⌝ }
 {
-    let m = project(image, l, number, &mut output[..0]);
-    if !m.ok {
-        let r = m.refusal;
-        return answers::answer::refuse(detail, r);
-    }
-    let n = m.length;
-    if output.len() < n {
-        return answers::answer::too_short(n as u32);
+    let mut first = [0u8; 16384];
+    let m = project(image, l, number, &mut first);
+    let e = ending::finish(m, &first, output, detail);
+    if e.done {
+        return e.answer;
     }
     let w = project(image, l, number, output);
     answers::answer::accept(w.length as u32, w.visits)
