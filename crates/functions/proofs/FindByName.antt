@@ -4,6 +4,7 @@ use mathlib.Core.Path.{_≡_, refl, sym, ap, subst, _∙_}
 use mathlib.Core.Bool.{true, false}
 use mathlib.Core.List.{List, _∷_}
 use mathlib.Core.Option.{Option, some}
+use lib.ListN.{length, getD}
 use borrow.Author.Tests.{eq-eqb, ne-eqb}
 use Rattle.rules.specs.Syntax.{ImplFnDef}
 use Rattle.rules.specs.Project.{find-function}
@@ -11,7 +12,7 @@ use Rattle.layout.specs.declared.Layout.{Layout}
 use Rattle.traits.specs.declared.find.Found.{Found}
 use Rattle.traits.specs.Found.{Agrees, Finds}
 use Rattle.functions.specs.Functions.{Function-here}
-use Rattle.functions.proofs.Walk as walk
+use Rattle.functions.proofs.PlaceTable.{Rest, turned, ended, passed}
 
 -- the first one has the name, or the others decide
 find-head : (x : ℕ) (f : ImplFnDef) (fs : List ImplFnDef) → x ≡ f .name → find-function x (f ∷ fs) ≡ some f
@@ -22,22 +23,23 @@ find-tail : (x : ℕ) (f : ImplFnDef) (fs : List ImplFnDef) → (x ≡ f .name �
 unfolding find-function
 find-tail x f fs e = ap {B = Option ImplFnDef} (λ b. elim b as (λ _. Option ImplFnDef) [ true ↦ some f | false ↦ find-function x fs ]) (ne-eqb x (f .name) e)
 
-module _ (image : List ℕ) (l : Layout) (x : ℕ) (fs : List ImplFnDef) where
+module _ (image : List ℕ) (l : Layout) (places : List ℕ) (x : ℕ) (fs : List ImplFnDef) where
   -- what is found among those that are left is found among all
-  abbrev pub Left : ℕ → ℕ → ℕ → ℕ → Type 0
-  Left = walk.Left (Function-here image l) (λ rest. find-function x rest ≡ find-function x fs)
+  abbrev pub Left : ℕ → Type 0
+  Left = Rest (Function-here image l) places (λ rest. find-function x rest ≡ find-function x fs)
 
   abbrev Found-here : Found → Type 0
   Found-here = Finds (Function-here image l) (find-function x fs)
 
-  pub came : {n count i next : ℕ} → Left n count i next → i < count → {y : ℕ} → ((f : ImplFnDef) (m : ℕ) → Function-here image l f next m → y ≡ f .name) → x ≡ y → Found-here (record { ok = true; start = next })
-  came {next = next} w b named e = walk.turned _ _ w b (λ f gs m q s r c.
-      record { is = subst (λ (o : Option ImplFnDef). Agrees (Function-here image l) o (record { ok = true; start = next })) (sym (find-head x f gs (e ∙ named f m q)) ∙ s) (refl, m, q) })
+  module _ {i : ℕ} (w : Left i) where
+    module _ (b : i < length places) {y : ℕ} (named : (f : ImplFnDef) (m : ℕ) → Function-here image l f (getD places i 0) m → y ≡ f .name) where
+      pub came : x ≡ y → Found-here (record { ok = true; start = getD places i 0 })
+      came e = turned _ _ _ w b (λ f gs m q s _.
+          record { is = subst (λ (o : Option ImplFnDef). Agrees (Function-here image l) o (record { ok = true; start = getD places i 0 })) (sym (find-head x f gs (e ∙ named f m q)) ∙ s) (refl, m, q) })
 
-  pub goes : {n count i next : ℕ} → Left n count i next → i < count → {y : ℕ} → ((f : ImplFnDef) (m : ℕ) → Function-here image l f next m → y ≡ f .name) → (x ≡ y → ⊥)
-      → {k : ℕ} → ((f : ImplFnDef) (m : ℕ) → Function-here image l f next m → k ≡ m) → Left n count (i + 1) k
-  goes w b named e behind = walk.turned _ _ w b (λ f gs m q s r c. walk.left _ _ gs r c (behind f m q) (sym (find-tail x f gs (λ z. e (z ∙ sym (named f m q)))) ∙ s))
+      pub goes : (x ≡ y → ⊥) → Left (i + 1)
+      goes e = turned _ _ _ w b (λ f gs m q s r. passed _ _ _ gs r (sym (find-tail x f gs (λ z. e (z ∙ sym (named f m q)))) ∙ s))
 
-  pub nowhere : {n count i next : ℕ} → Left n count i next → count ≤ i → Found-here (record { ok = false; start = 0 })
-  unfolding find-function
-  nowhere w b = record { is = subst (λ (o : Option ImplFnDef). Agrees (Function-here image l) o (record { ok = false; start = 0 })) (walk.ended _ _ w b .1) refl }
+    pub nowhere : length places ≤ i → Found-here (record { ok = false; start = 0 })
+    unfolding find-function
+    nowhere b = record { is = subst (λ (o : Option ImplFnDef). Agrees (Function-here image l) o (record { ok = false; start = 0 })) (ended _ _ _ w b) refl }

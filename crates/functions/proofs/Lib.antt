@@ -1,5 +1,6 @@
 -- Laws of walks along functions.
 pub mod Walk
+pub mod PlaceTable
 pub mod FindByName
 pub mod TargetRows
 pub mod Members

@@ -5,3 +5,4 @@ pub mod places;
 pub mod repeats;
 pub mod search;
 pub mod strangers;
+pub mod table;

@@ -3,31 +3,27 @@ use layout::Layout;
 use rules::ids::NameId;
 use traits::find::Found;
 ghost use mathlib.Core.List.{List};
-ghost use Prim.Native.Nat.{ℕ};
 ghost use Rattle.rules.specs.Syntax.{ImplFnDef};
 ghost use Rattle.rules.specs.Project.{find-function};
 ghost use Rattle.layout.specs.Rows.{Inside};
 ghost use Rattle.traits.specs.Found.{Finds};
-ghost use Rattle.functions.specs.Functions.{Function-here, Functions-here};
+ghost use Rattle.functions.specs.Functions.{Function-here, Placed};
 
-// Where the function of this name stands, of those at `at`.
-pub fn find_function(image: &[u8], l: Layout, at: usize, x: NameId) -> Found
+// Where the function of this name stands, of those at these places.
+pub fn find_function(image: &[u8], l: Layout, places: &[usize], x: NameId) -> Found
     requires { ⌜ Inside (now image) l ⌝ }
-    ensures { λ r. ⌜ ((fs : List ImplFnDef) (n : ℕ) → Functions-here (now (image .entry)) l fs at n → Finds (Function-here (now (image .entry)) l) (find-function (x .0) fs) r) ⌝ }
+    ensures { λ r. ⌜ ((fs : List ImplFnDef) → Placed (now (image .entry)) l fs (now (places .entry)) → Finds (Function-here (now (image .entry)) l) (find-function (x .0) fs) r) ⌝ }
 {
-    let pool = l.pool;
-    let count = reading::section_word(image, pool, at);
     let mut i = 0;
-    let mut next = fields::after(pool, at);
-    while i < count {
-        let name = crate::places::name_at(image, l, next);
+    while i < places.len() {
+        let place = places[i];
+        let name = crate::places::name_at(image, l, place);
         if x.0 == name.0 {
             return Found {
                 ok: true,
-                start: next,
+                start: place,
             };
         }
-        next = crate::places::after_function(image, l, next);
         i += 1;
     }
     Found {

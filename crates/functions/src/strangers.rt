@@ -8,25 +8,22 @@ ghost use Rattle.rules.specs.Syntax.{ImplFnDef, TraitFnDef};
 ghost use Rattle.rules.specs.Project.{no-stranger};
 ghost use Rattle.layout.specs.Rows.{Inside};
 ghost use Rattle.outcomes.specs.Outcomes.{Passes};
-ghost use Rattle.functions.specs.Functions.{Functions-here, All-asked-here};
+ghost use Rattle.functions.specs.Functions.{Placed, All-asked-here};
 
-// 10 at the first of the functions at `at` that is none of the trait functions at `trait_at`.
-pub fn no_stranger(image: &[u8], l: Layout, trait_at: usize, at: usize) -> Outcome
+// 10 at the first of the functions at these places that is none of the trait functions at `trait_at`.
+pub fn no_stranger(image: &[u8], l: Layout, trait_at: usize, places: &[usize]) -> Outcome
     requires { ⌜ Inside (now image) l ⌝ }
-    ensures { λ r. ⌜ ((ts : List TraitFnDef) (m : ℕ) → All-asked-here (now (image .entry)) l ts «trait_at» m → (fs : List ImplFnDef) (n : ℕ) → Functions-here (now (image .entry)) l fs at n → Passes (no-stranger (map (λ t. t .name) ts) fs) r) ⌝ }
+    ensures { λ r. ⌜ ((ts : List TraitFnDef) (m : ℕ) → All-asked-here (now (image .entry)) l ts «trait_at» m → (fs : List ImplFnDef) → Placed (now (image .entry)) l fs (now (places .entry)) → Passes (no-stranger (map (λ t. t .name) ts) fs) r) ⌝ }
 {
     let pool = l.pool;
     let names = crate::names::function_names(image, l, trait_at);
     let known = crate::names::few(reading::section_word(image, pool, trait_at));
-    let count = reading::section_word(image, pool, at);
     let mut i = 0;
-    let mut next = fields::after(pool, at);
-    while i < count {
-        let name = crate::places::name_at(image, l, next);
+    while i < places.len() {
+        let name = crate::places::name_at(image, l, places[i]);
         if !pool_definitions::traits::listed(&names[..known], name) {
             return answers::answer::refused(Refusal::at(10, name));
         }
-        next = crate::places::after_function(image, l, next);
         i += 1;
     }
     answers::answer::accepted(0, 0)

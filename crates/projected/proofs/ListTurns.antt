@@ -26,7 +26,7 @@ use Rattle.projected.specs.Asked.{Stand, One, All}
 use Rattle.projected.proofs.Resolved.{First, first, none-left}
 use Rattle.projected.proofs.StepLaws.{prepend, prepend-none, prepend-err, prepend-more, list-refused, list-more, list-done, list-stopped}
 
-module _ {image : List ℕ} {l : Layout} {params : List ℕ} {at : ℕ} (h : All image l params at) (parts : Parts) (limit from : ℕ) (old : List ℕ) where
+module _ {image : List ℕ} {l : Layout} {params : List ℕ} {at : ℕ} (h : All image l params at) (places : List ℕ) (parts : Parts) (limit from : ℕ) (old : List ℕ) where
   abbrev Functions : List TraitFnDef → ℕ → Type 0
   Functions fs next = Row (Asked-here image l) fs next (h .here .behind)
 
@@ -44,7 +44,7 @@ module _ {image : List ℕ} {l : Layout} {params : List ℕ} {at : ℕ} (h : All
     pub visits : ℕ
     pub signatures : List PortableSignature
     pub is : expected-list (h .here .schema) (h .here .seen) left ≡ ok (visits, signatures)
-    pub made : (impl : ImplDef) (message : MessageDef) → Stand image l parts impl message → Made impl message signatures i place new
+    pub made : (impl : ImplDef) (message : MessageDef) → Stand image l places parts impl message → Made impl message signatures i place new
 
   pub start : Left 0 (at + 1) from old
   unfolding each
@@ -79,8 +79,8 @@ module _ {image : List ℕ} {l : Layout} {params : List ℕ} {at : ℕ} (h : All
       pub turn-here : One image l params next
       turn-here = turn (λ f fs r m d. one f fs r d)
 
-      module _ {newer : List ℕ} {r : Outcome} (p : (k : One image l params next) (impl : ImplDef) (message : MessageDef) → Stand image l parts impl message → Comes-to (one-words impl message (k .signature)) limit place new newer r) where
-        pub turn-refused : r .ok ≡ false → (impl : ImplDef) (message : MessageDef) → Stand image l parts impl message → {to : ℕ} {older : List ℕ} → Comes-to (list-words impl message (h .signatures)) limit to older newer r
+      module _ {newer : List ℕ} {r : Outcome} (p : (k : One image l params next) (impl : ImplDef) (message : MessageDef) → Stand image l places parts impl message → Comes-to (one-words impl message (k .signature)) limit place new newer r) where
+        pub turn-refused : r .ok ≡ false → (impl : ImplDef) (message : MessageDef) → Stand image l places parts impl message → {to : ℕ} {older : List ℕ} → Comes-to (list-words impl message (h .signatures)) limit to older newer r
         turn-refused n impl message s = turn (λ f fs w m d.
             let q = came-err (p (one f fs w d) impl message s) n in
             let g = v .made impl message s in
@@ -115,7 +115,7 @@ module _ {image : List ℕ} {l : Layout} {params : List ℕ} {at : ℕ} (h : All
 
     -- none is left, and their count stands before them
     pub ended : {w to : ℕ} {older : List ℕ} → w ≡ getD (pool-words image l) at 0 → Written limit to (w ∷ []) older from old → w ≤ i → {o : Outcome} → o .ok ≡ true → o .length ≡ place
-        → (impl : ImplDef) (message : MessageDef) → Stand image l parts impl message → Comes-to (list-words impl message (h .signatures)) limit to older new o
+        → (impl : ImplDef) (message : MessageDef) → Stand image l places parts impl message → Comes-to (list-words impl message (h .signatures)) limit to older new o
     ended {w} {to} {older} e c b {o} y z impl message s =
         let g = v .made impl message s in
         let many : i ≡ w = omega (arith, v .many, h .here .stands .0 .is, e) in

@@ -61,7 +61,7 @@ module _ {image : List ℕ} {l : Layout} {params : List ℕ} {at : ℕ} (k : One
           (comes-behind (subst (λ (x : ℕ). Written limit to (signature-words x (k .signature .params) (k .signature .return-type)) old a mid) name-is w) b)
 
     -- the body's context
-    pub in-context : {parts : Parts} → Stand image l parts impl message → {names words lens : List ℕ} {f : NameId} {count : ℕ} → f .0 ≡ name → Rows (l .names .rows) names words lens count 0 (k .signature .params)
+    pub in-context : {places : List ℕ} {parts : Parts} → Stand image l places parts impl message → {names words lens : List ℕ} {f : NameId} {count : ℕ} → f .0 ≡ name → Rows (l .names .rows) names words lens count 0 (k .signature .params)
         → InContext image l names words lens (record { function = f; fields = parts .fields; target = parts .target; count = count }) (context impl message (k .signature) (hit .a))
     in-context s e t = record {
       function = e ∙ found-name name (impl .functions) (hit .is);

@@ -12,14 +12,22 @@ use Rattle.pool_types.specs.TypeAt.{Type-stands}
 use Rattle.fields.specs.Fields.{Fields}
 use Rattle.signature.specs.Here.{Function-here}
 use Rattle.expected.specs.Asked as expected
-use Rattle.functions.specs.Functions.{Functions-here}
+use Rattle.functions.specs.Functions.{Functions-here, Placed}
 use Rattle.projected.specs.declared.parts.Parts.{Parts}
 
 module _ (image : List ℕ) (l : Layout) where
-  -- the implementation's functions, the message's fields and the target type stand there
-  pub record Stand (p : Parts) (impl : ImplDef) (message : MessageDef) : Type 0 where
+  -- the implementation's functions, the message's fields and the target type stand from these places on
+  pub record Behind (impl : ImplDef) (message : MessageDef) (functions fields target : ℕ) : Type 0 where
     pub functions-end : ℕ
-    pub functions-at : Functions-here image l (impl .functions) (p .functions) functions-end
+    pub functions-at : Functions-here image l (impl .functions) functions functions-end
+    pub fields-end : ℕ
+    pub fields-at : Fields (l .names .rows) (pool-words image l) (message .fields) fields fields-end
+    pub target-end : ℕ
+    pub target-at : Type-stands (l .names .rows) (pool-words image l) (impl .target-type) target target-end
+
+  -- each of the implementation's functions stands at its place in the table, the message's fields and the target type there
+  pub record Stand (places : List ℕ) (p : Parts) (impl : ImplDef) (message : MessageDef) : Type 0 where
+    pub functions-at : Placed image l (impl .functions) places
     pub fields-end : ℕ
     pub fields-at : Fields (l .names .rows) (pool-words image l) (message .fields) (p .fields) fields-end
     pub target-end : ℕ

@@ -10,19 +10,20 @@ ghost use Rattle.outcomes.specs.Outcomes.{Comes-to};
 ghost use Rattle.projected.specs.Steps.{list-words};
 ghost use Rattle.projected.specs.Asked.{Stand, All};
 
-// Their count, and each one of the trait functions at `at`.
+// Their count, and each one of the trait functions at `at`; the implementation's functions stand at these places.
 pub fn project_list(
     image: &[u8],
     l: Layout,
     at: usize,
     params: &[u32],
+    places: &[usize],
     parts: Parts,
     out: &mut [u8],
     limit: usize,
     to: usize,
 ) -> Outcome
     requires { ⌜ Cut (now image) l × All (now image) l (now params) at × (limit ≤ length (now out)) ⌝ }
-    ensures { λ r. ⌜ ((h : All (now (image .entry)) l (now (params .entry)) at) (impl : ImplDef) (message : MessageDef) → Stand (now (image .entry)) l parts impl message → Comes-to (list-words impl message (h .signatures)) limit to (now (out .entry)) (now (out .exit)) r) ⌝ }
+    ensures { λ r. ⌜ ((h : All (now (image .entry)) l (now (params .entry)) at) (impl : ImplDef) (message : MessageDef) → Stand (now (image .entry)) l (now (places .entry)) parts impl message → Comes-to (list-words impl message (h .signatures)) limit to (now (out .entry)) (now (out .exit)) r) ⌝ }
 {
     let pool = l.pool;
     let count = reading::section_word(image, pool, at);
@@ -30,7 +31,7 @@ pub fn project_list(
     let mut next = at + 1;
     let mut i = 0;
     while i < count {
-        let f = crate::one::project_one(image, l, next, params, parts, out, limit, place);
+        let f = crate::one::project_one(image, l, next, params, places, parts, out, limit, place);
         if !f.ok {
             return f;
         }

@@ -12,22 +12,23 @@ ghost use Rattle.outcomes.specs.Outcomes.{Comes-to};
 ghost use Rattle.projected.specs.Steps.{one-words};
 ghost use Rattle.projected.specs.Asked.{Stand, One};
 
-// The trait function at `at`, with these type parameters in view: 11, its signature, 12, its body.
+// The trait function at `at`, with these type parameters in view, the implementation's functions at these places: 11, its signature, 12, its body.
 pub fn project_one(
     image: &[u8],
     l: Layout,
     at: usize,
     params: &[u32],
+    places: &[usize],
     parts: Parts,
     out: &mut [u8],
     limit: usize,
     to: usize,
 ) -> Outcome
     requires { ⌜ Cut (now image) l × One (now image) l (now params) at × (limit ≤ length (now out)) ⌝ }
-    ensures { λ r. ⌜ ((k : One (now (image .entry)) l (now (params .entry)) at) (impl : ImplDef) (message : MessageDef) → Stand (now (image .entry)) l parts impl message → Comes-to (one-words impl message (k .signature)) limit to (now (out .entry)) (now (out .exit)) r) ⌝ }
+    ensures { λ r. ⌜ ((k : One (now (image .entry)) l (now (params .entry)) at) (impl : ImplDef) (message : MessageDef) → Stand (now (image .entry)) l (now (places .entry)) parts impl message → Comes-to (one-words impl message (k .signature)) limit to (now (out .entry)) (now (out .exit)) r) ⌝ }
 {
     let name = functions::places::name_at(image, l, at);
-    let f = functions::search::find_function(image, l, parts.functions, name);
+    let f = functions::search::find_function(image, l, places, name);
     if !f.ok {
         return answers::answer::refused(Refusal::at(11, name));
     }

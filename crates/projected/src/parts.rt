@@ -9,9 +9,8 @@ ghost use Rattle.layout.specs.Rows.{Inside};
 ghost use Rattle.layout.specs.Open.{pool-words};
 ghost use Rattle.pool_types.specs.TypeAt.{Type-stands};
 
-// Its functions, its message's fields, its target type.
+// Its message's fields, its target type.
 pub struct Parts {
-    pub functions: usize,
     pub fields: usize,
     pub target: usize,
 }

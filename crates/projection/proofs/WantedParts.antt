@@ -3,8 +3,9 @@ use Prim.Native.Nat.{ℕ, _+_, _<_, _≤_}
 use mathlib.Core.Path.{_≡_, refl, sym, subst, _∙_}
 use mathlib.Core.List.{List, _++_, map}
 use native.Mathlib.Omega.{arith}
-use lib.ListN.{length, getD}
-use Rattle.rules.specs.Syntax.{MessageDef, ImplDef}
+use native.Mathlib.Nat.{min-le-left}
+use lib.ListN.{length, getD, take, length-take}
+use Rattle.rules.specs.Syntax.{MessageDef, ImplFnDef, ImplDef}
 use Rattle.rules.specs.Refusal.{Result}
 use Rattle.rules.specs.Substitute.{view}
 use Rattle.rules.specs.Signatures.{expected-functions}
@@ -21,9 +22,10 @@ use Rattle.outcomes.specs.Outcomes.{Passes, Comes-to}
 use Rattle.signature.proofs.Places.{pool-small}
 use Rattle.expected.specs.Asked.{in-words, Asked}
 use Rattle.expected.proofs.Views as views
-use Rattle.functions.specs.Functions.{All-asked-here}
-use Rattle.projection.specs.Asked.{Behind, Wanted}
-use Rattle.projected.specs.Asked.{All}
+use Rattle.functions.specs.Functions.{Functions-here, Placed, All-asked-here}
+use Rattle.projection.specs.Asked.{Wanted}
+use Rattle.projected.specs.declared.parts.Parts.{Parts}
+use Rattle.projected.specs.Asked.{Behind, Stand, All}
 use Rattle.projection.proofs.WholeLaws.{same-names, as-many, words-ok}
 
 module _ {image : List ℕ} {l : Layout} {start types : ℕ} (w : Wanted image l start types) {n : ℕ} (is : n ≡ getD (pool-words image l) (start + 1) 0) where
@@ -65,9 +67,24 @@ types-small i a = pool-small i (a .types-at .0 .inside)
 abbrev pub wanted : {image : List ℕ} {l : Layout} {start types : ℕ} (a : Asked image l start types) {old new : List ℕ} {r : Outcome} → Accepted (in-words (expected-functions (a .schema) (a .trait) (a .impl))) old new r → Wanted image l start types
 wanted a k = let s = words-ok (expected-functions (a .schema) (a .trait) (a .impl)) (k .is) in record { asked = a; visits = k .visits; signatures = s .0; is = s .1 }
 
--- the functions stand where the type arguments end
-pub stand-at : {image : List ℕ} {l : Layout} {impl : ImplDef} {message : MessageDef} {functions fields target k : ℕ} → k ≡ functions → Behind image l impl message functions fields target → Behind image l impl message k fields target
-stand-at {image} {l} {impl} {message} {functions} {fields} {target} e b = subst (λ (j : ℕ). Behind image l impl message j fields target) (sym e) b
+-- the functions stand where the type arguments end, and the table has their places
+pub stand : {image : List ℕ} {l : Layout} {impl : ImplDef} {message : MessageDef} {functions : ℕ} {parts : Parts} → Behind image l impl message functions (parts .fields) (parts .target)
+    → {k : ℕ} → k ≡ functions → {table : List ℕ} → ((fs : List ImplFnDef) (n : ℕ) → Functions-here image l fs k n → Placed image l fs (take (length fs) table))
+    → {x count : ℕ} → x ≡ getD (pool-words image l) k 0 → (x ≤ 64 → count ≡ x) → Stand image l (take count table) parts impl message
+stand {image} {l} {impl} b {k} e {table} placed {x} {count} is few =
+    let here = subst (λ (j : ℕ). Functions-here image l (impl .functions) j (b .functions-end)) (sym e) (b .functions-at) in
+    let many : x ≡ length (impl .functions) = is ∙ here .0 .is in
+    record {
+      functions-at = subst (λ (j : ℕ). Placed image l (impl .functions) (take j table)) (sym (few (omega (arith, here .1, many)) ∙ many)) (placed (impl .functions) (b .functions-end) here);
+      fields-end = b .fields-end;
+      fields-at = b .fields-at;
+      target-end = b .target-end;
+      target-at = b .target-at;
+    }
+
+-- a lent table of at most 64
+pub few-places : (xs : List ℕ) {n : ℕ} → n ≤ 64 → length (take n xs) ≤ 64
+few-places xs {n} h = omega (arith, length-take n xs, min-le-left n (length xs))
 
 -- none of the output was lent before
 pub untouched-to : (xs output : List ℕ) {part : Result (List ℕ)} {new : List ℕ} {r : Outcome} → length xs ≡ 0 → Comes-to part (length (xs ++ output)) 0 (xs ++ output) new r → Comes-to part (length output) 0 output new r

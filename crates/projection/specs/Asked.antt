@@ -3,22 +3,16 @@ use Prim.Native.Nat.{ℕ, _≤_}
 use mathlib.Core.Path.{_≡_}
 use mathlib.Core.List.{List}
 use lib.ListN.{length}
-use Rattle.rules.specs.Syntax.{MessageDef, ImplDef}
 use Rattle.rules.specs.Refusal.{Result, ok}
 use Rattle.rules.specs.Signatures.{PortableSignature, expected-functions}
 use Rattle.layout.specs.declared.Layout.{Layout}
 use Rattle.expected.specs.Asked as expected
-use Rattle.projected.specs.Asked.{Stand}
 
 -- what is accepted has at most so many words
 abbrev pub Few : Result (ℕ × List ℕ) → Type 0
 Few r = (v : ℕ) (ws : List ℕ) → r ≡ ok (v, ws) → length ws ≤ 200000000
 
 module _ (image : List ℕ) (l : Layout) where
-  -- the implementation's functions behind its type arguments, the message's fields and the target type
-  abbrev pub Behind : ImplDef → MessageDef → ℕ → ℕ → ℕ → Type 0
-  Behind impl message functions fields target = Stand image l (record { functions = functions; fields = fields; target = target }) impl message
-
   -- a trait at `start` and type arguments at `types`, and the signatures that they come to
   pub record Wanted (start types : ℕ) : Type 0 where
     pub asked : expected.Asked image l start types

@@ -9,10 +9,10 @@ ghost use Rattle.answers.specs.Answers.{Comes};
 ghost use Rattle.outcomes.specs.Outcomes.{Comes-to};
 ghost use Rattle.expected.specs.Asked.{Asked};
 ghost use Rattle.projection.specs.Steps.{tested-words, found-words};
-ghost use Rattle.projected.specs.Asked.{Stand};
-ghost use Rattle.projection.specs.Asked.{Wanted, Behind, Few};
+ghost use Rattle.projected.specs.Asked.{Behind};
+ghost use Rattle.projection.specs.Asked.{Wanted, Few};
 
-// 9, then 10, then each function: the trait at `start` with the type arguments at `types`, whose signatures keep the bounds.
+// 9, then 10, then each function: the trait at `start` with the type arguments at `types`, whose signatures keep the bounds. One walk finds the places of the functions, for all three.
 fn project_tested(
     image: &[u8],
     l: Layout,
@@ -22,23 +22,27 @@ fn project_tested(
     out: &mut [u8],
 ) -> Outcome
     requires { ⌜ Cut (now image) l × Wanted (now image) l start types ⌝ }
-    ensures { λ r. ⌜ ((w : Wanted (now (image .entry)) l start types) (message : MessageDef) → Stand (now (image .entry)) l parts (w .asked .impl) message → Comes-to (tested-words (w .asked .impl) message (w .signatures)) (length (now (out .entry))) 0 (now (out .entry)) (now (out .exit)) r) ⌝ }
+    ensures { λ r. ⌜ ((w : Wanted (now (image .entry)) l start types) (message : MessageDef) → Behind (now (image .entry)) l (w .asked .impl) message (w .asked .types-end) (parts .fields) (parts .target) → Comes-to (tested-words (w .asked .impl) message (w .signatures)) (length (now (out .entry))) 0 (now (out .entry)) (now (out .exit)) r) ⌝ }
 {
     let pool = l.pool;
-    let functions = parts.functions;
     let n = reading::section_word(image, pool, start + 1) as usize;
     let asked = start + 1 + 1 + n;
-    let repeats = functions::repeats::no_repeat(image, l, functions);
+    let functions = projected::parts::functions_start(image, l, types);
+    let found = functions::table::function_places(image, l, functions);
+    let count = functions::names::few(reading::section_word(image, pool, functions));
+    let places = &found[..count];
+    let repeats = functions::repeats::no_repeat(image, l, places);
     if !repeats.ok {
         return repeats;
     }
-    let strangers = functions::strangers::no_stranger(image, l, asked, functions);
+    let strangers = functions::strangers::no_stranger(image, l, asked, places);
     if !strangers.ok {
         return strangers;
     }
     let table = traits::view::view(image, l, start + 1 + 1, types + 1, n);
+    let params = &table[..66 * n];
     let limit = out.len();
-    projected::list::project_list(image, l, asked, &table[..66 * n], parts, out, limit, 0)
+    projected::list::project_list(image, l, asked, params, places, parts, out, limit, 0)
 }
 
 // 6, 8 and 7 of the trait at `start` come before 9 and 10; the message's fields stand at `fields`, the target type at `target`.
@@ -58,12 +62,7 @@ pub fn project_found(
     if !e.ok {
         return e;
     }
-    let functions = projected::parts::functions_start(image, l, types);
-    let parts = Parts {
-        functions,
-        fields,
-        target,
-    };
+    let parts = Parts { fields, target };
     let p = project_tested(image, l, start, types, parts, out);
     if !p.ok {
         return p;

@@ -1,22 +1,21 @@
--- `functions::search::find_function` meets its contract. The loop's invariant: those that are left decide. Assumes nothing.
+-- `functions::search::find_function` meets its contract. The loop's invariant: what is found among those that are left is found among all. Assumes nothing.
 use borrow.Author.Needs.{needs}
-use Prim.Native.Nat.{ℕ, _-_}
-use native.Mathlib.Omega.{arith}
-use mathlib.Core.Path.{refl, _∙_}
+use Prim.Native.Nat.{_-_}
+use mathlib.Core.Path.{refl}
 use mathlib.Core.List.{List}
+use lib.ListN.{length}
 use Rattle.rules.specs.Syntax.{ImplFnDef}
-use Rattle.reading.specs.Sections.{length-section}
-use Rattle.functions.specs.Functions.{Functions-here}
-use Rattle.functions.proofs.Walk.{started}
+use Rattle.functions.specs.Functions.{Placed}
+use Rattle.functions.proofs.PlaceTable.{passed}
 use Rattle.functions.proofs.FindByName.{Left, came, goes, nowhere}
 use Rattle.functions.proofs.search.find_function.Statement.{statement}
 use Rattle.functions.proofs.search.find_function.Tie as tie
 
 abbrev Inv-loop : tie.InvT-loop
-Inv-loop image l at x count i₀ next₀ i next = (fs : List ImplFnDef) (n : ℕ) → Functions-here image l fs at n → Left image l (x .0) fs n count i next
+Inv-loop image l places x i₀ i = (fs : List ImplFnDef) → Placed image l fs places → Left image l places (x .0) fs i
 
 abbrev μ-loop : tie.MeasureT-loop
-μ-loop image l at x count i₀ next₀ i next = count - i
+μ-loop image l places x i₀ i = length places - i
 
 pub find-function-spec : {M : Type 1} → statement M
 find-function-spec =
@@ -24,13 +23,12 @@ find-function-spec =
     (tie.spec
     Inv-loop
     μ-loop
-    (λ c κs. search needs)
-    (λ c κs. search needs)
-    (λ c. λ fs n h. started _ _ fs (h .2) (c .before .section-word .ensures ∙ h .0 .is) (c .after .ensures (omega (arith, h .0 .inside, length-section (c .before .before .before .before .pre .pool)))) refl)
-    (λ c κs. search needs)
-    (λ c. λ fs n h. came _ (c .before .before .before .before .before .before .before .before .before .before .args .l) _ fs (c .before .before .before .before .before .loop .inv fs n h) (c .before .before .before .before .loop-test .taken) (c .before .before .before .name-at .ensures .0) (c .if1 .taken))
-    (λ c κs. search needs)
+    (λ c. λ fs h. passed _ _ _ fs h refl)
     (λ c. search needs)
     (λ c. search needs)
-    (λ c. λ fs n h. goes _ (c .before .before .before .before .before .before .before .before .before .before .before .args .l) _ fs (c .before .before .before .before .before .before .loop .inv fs n h) (c .before .before .before .before .before .loop-test .taken) (c .before .before .before .before .name-at .ensures .0) (c .before .if1 .left) (c .after-function .ensures))
-    (λ c. λ fs n h. nowhere _ (c .before .before .before .before .before .before .args .l) _ fs (c .before .loop .inv fs n h) (c .loop-test .left)))
+    (λ c κs. search needs)
+    (λ c. λ fs h. came _ (c .before .before .before .before .before .before .before .before .before .args .l) _ _ fs (c .before .before .before .before .before .before .loop .inv fs h) (c .before .before .before .before .before .loop-test .taken) (c .before .before .before .name-at .ensures .0) (c .if1 .taken))
+    (λ c. search needs)
+    (λ c. search needs)
+    (λ c. λ fs h. goes _ (c .before .before .before .before .before .before .before .before .before .args .l) _ _ fs (c .before .before .before .before .before .before .loop .inv fs h) (c .before .before .before .before .before .loop-test .taken) (c .before .before .before .name-at .ensures .0) (c .if1 .left))
+    (λ c. λ fs h. nowhere _ (c .before .before .before .before .args .l) _ _ fs (c .before .loop .inv fs h) (c .loop-test .left)))

@@ -11,19 +11,18 @@ use Rattle.rules.specs.Syntax.{ImplFnDef, TraitFnDef}
 use Rattle.rules.specs.Words.{member}
 use Rattle.rules.specs.Project.{no-stranger}
 use Rattle.answers.specs.Refusals.{refusal-of}
-use Rattle.reading.specs.Sections.{length-section}
 use Rattle.pool_definitions.specs.Different.{names-of}
-use Rattle.functions.specs.Functions.{Functions-here, All-asked-here}
-use Rattle.functions.proofs.Walk.{started}
+use Rattle.functions.specs.Functions.{Placed, All-asked-here}
+use Rattle.functions.proofs.PlaceTable.{passed}
 use Rattle.functions.proofs.NameTests.{Tested, not-known, known, all-known}
 use Rattle.functions.proofs.strangers.no_stranger.Statement.{statement}
 use Rattle.functions.proofs.strangers.no_stranger.Tie as tie
 
 abbrev Inv-loop : tie.InvT-loop
-Inv-loop image l trait-at at names known count i₀ next₀ i next = (ts : List TraitFnDef) (m : ℕ) → All-asked-here image l ts trait-at m → (fs : List ImplFnDef) (n : ℕ) → Functions-here image l fs at n → Tested image l no-stranger (no-stranger (names-of ts) fs) (names-of ts) n count i next
+Inv-loop image l trait-at places names count i₀ i = (ts : List TraitFnDef) (m : ℕ) → All-asked-here image l ts trait-at m → (fs : List ImplFnDef) → Placed image l fs places → Tested image l places no-stranger (no-stranger (names-of ts) fs) (names-of ts) i
 
 abbrev μ-loop : tie.MeasureT-loop
-μ-loop image l trait-at at names known count i₀ next₀ i next = count - i
+μ-loop image l trait-at places names count i₀ i = length places - i
 
 pub no-stranger-spec : {M : Type 1} → statement M
 no-stranger-spec =
@@ -34,25 +33,24 @@ no-stranger-spec =
     (λ c κs. search needs)
     (λ c κs. search needs)
     (λ c κs. search needs)
-    (λ c κs. search needs)
-    (λ c κs. search needs)
-    (λ c. λ ts m k fs n h. started _ _ fs (h .2) (c .before .section-word2 .ensures ∙ h .0 .is) (c .after .ensures (omega (arith, h .0 .inside, length-section (c .before .before .before .before .before .before .before .pre .pool)))) refl)
-    (λ c κs. search needs)
-    (λ c. omega (arith, c .before .before .before .before .before .few .ensures .1))
-    (λ c. let e : length (c .before .before .before .before .before .before .before .before .function-names .result) ≡ 64 = search needs in sym (length-take-le _ _ (omega (arith, c .before .before .before .before .before .before .few .ensures .1))))
-    (λ c κs. search needs)
-    (λ c κs. search needs)
-    (λ c κs. search needs)
-    (λ c. λ ts m k fs n h.
-    let e = c .before .before .before .before .before .before .before .before .before .before .before .section-word .ensures ∙ k .0 .is in
-    let known-is = ap (λ (j : ℕ). take j (c .before .before .before .before .before .before .before .before .before .before .before .before .function-names .result)) (c .before .before .before .before .before .before .before .before .before .before .few .ensures .0 (omega (arith, k .1, e)) ∙ e) ∙ c .before .before .before .before .before .before .before .before .before .before .before .before .function-names .ensures ts m k in
-    not-known _ (c .before .before .before .before .before .before .before .before .before .before .before .before .before .before .before .args .l) _ _ (c .before .before .before .before .before .before .before .loop .inv ts m k fs n h) (c .before .before .before .before .before .before .loop-test .taken) (c .before .before .before .before .before .name-at .ensures .0) (ap (member _) (sym known-is) ∙ sym (c .before .before .before .listed .ensures) ∙ not-true _ (c .before .before .if1 .taken)) (c .refused .ensures .0) (ap refusal-of (c .refused .ensures .1) ∙ c .before .at .ensures))
-    (λ c κs. search needs)
+    (λ c. λ ts m k fs h. passed _ _ _ fs h refl)
     (λ c. search needs)
     (λ c. search needs)
-    (λ c. λ ts m k fs n h.
+    (λ c κs. search needs)
+    (λ c. omega (arith, c .before .before .before .before .few .ensures .1))
+    (λ c. let e : length (c .before .before .before .before .before .before .before .function-names .result) ≡ 64 = search needs in sym (length-take-le _ _ (omega (arith, c .before .before .before .before .before .few .ensures .1))))
+    (λ c κs. search needs)
+    (λ c κs. search needs)
+    (λ c κs. search needs)
+    (λ c. λ ts m k fs h.
     let e = c .before .before .before .before .before .before .before .before .before .before .section-word .ensures ∙ k .0 .is in
     let known-is = ap (λ (j : ℕ). take j (c .before .before .before .before .before .before .before .before .before .before .before .function-names .result)) (c .before .before .before .before .before .before .before .before .before .few .ensures .0 (omega (arith, k .1, e)) ∙ e) ∙ c .before .before .before .before .before .before .before .before .before .before .before .function-names .ensures ts m k in
-    known _ (c .before .before .before .before .before .before .before .before .before .before .before .before .before .before .args .l) _ _ (c .before .before .before .before .before .before .loop .inv ts m k fs n h) (c .before .before .before .before .before .loop-test .taken) (c .before .before .before .before .name-at .ensures .0) (ap (member _) (sym known-is) ∙ sym (c .before .before .listed .ensures) ∙ not-false _ (c .before .if1 .left)) (c .after-function .ensures))
+    not-known _ (c .before .before .before .before .before .before .before .before .before .before .before .before .before .before .before .args .l) _ _ _ (c .before .before .before .before .before .before .before .before .loop .inv ts m k fs h) (c .before .before .before .before .before .before .before .loop-test .taken) (c .before .before .before .before .before .name-at .ensures .0) (ap (member _) (sym known-is) ∙ sym (c .before .before .before .listed .ensures) ∙ not-true _ (c .before .before .if1 .taken)) (c .refused .ensures .0) (ap refusal-of (c .refused .ensures .1) ∙ c .before .at .ensures))
+    (λ c. search needs)
+    (λ c. search needs)
+    (λ c. λ ts m k fs h.
+    let e = c .before .before .before .before .before .before .before .before .section-word .ensures ∙ k .0 .is in
+    let known-is = ap (λ (j : ℕ). take j (c .before .before .before .before .before .before .before .before .before .function-names .result)) (c .before .before .before .before .before .before .before .few .ensures .0 (omega (arith, k .1, e)) ∙ e) ∙ c .before .before .before .before .before .before .before .before .before .function-names .ensures ts m k in
+    known _ (c .before .before .before .before .before .before .before .before .before .before .before .before .before .args .l) _ _ _ (c .before .before .before .before .before .before .loop .inv ts m k fs h) (c .before .before .before .before .before .loop-test .taken) (c .before .before .before .name-at .ensures .0) (ap (member _) (sym known-is) ∙ sym (c .before .listed .ensures) ∙ not-false _ (c .if1 .left)))
     (λ c κs. search needs)
-    (λ c. λ ts m k fs n h. all-known _ (c .before .before .before .before .before .before .before .before .before .before .args .l) _ _ (c .before .before .loop .inv ts m k fs n h) (c .before .loop-test .left) (c .accepted .ensures .0)))
+    (λ c. λ ts m k fs h. all-known _ (c .before .before .before .before .before .before .before .before .before .args .l) _ _ _ (c .before .before .loop .inv ts m k fs h) (c .before .loop-test .left) (c .accepted .ensures .0)))
