@@ -1,0 +1,2 @@
+// The place behind what stands in the pool, by counting: on an image that is known to be readable no word is tested again.
+pub mod types;
