@@ -26,6 +26,13 @@ module _ {A : Type 0} {Q : A → ℕ → ℕ → Type 0} where
   pub two-left : (a b : A) {at n : ℕ} (m : ℕ) → Q a at m → Q b m n → Pending Q 2 at n
   two-left a b {at} {n} m q r = record { things = a ∷ (b ∷ []); many = refl; row = (m, q, (n, r, refl)) }
 
+  pub more-left : (a : A) {p at n : ℕ} (m : ℕ) → Q a at m → Pending Q p m n → Pending Q (suc p) at n
+  more-left a m q h = record { things = a ∷ h .things; many = ap suc (h .many); row = (m, q, h .row) }
+
+  -- by the code's number, which is the same
+  pub numbered : {p at n : ℕ} (z : ℕ) → z ≡ p → Pending Q p at n → Pending Q z at n
+  numbered {p} {at} {n} z e h = subst (λ (k : ℕ). Pending Q k at n) (sym e) h
+
   -- from the code's place, which is the same
   pub moved : {p at n : ℕ} (z : ℕ) → z ≡ at → Pending Q p at n → Pending Q p z n
   moved {p} {at} {n} z e h = subst (λ (k : ℕ). Pending Q p k n) (sym e) h
@@ -60,3 +67,12 @@ module _ {A : Type 0} {Q : A → ℕ → ℕ → Type 0} where
               many = omega (arith, length-append (k .things) xs, k .many);
               row = row-append Q (k .things) xs next (r .0) n (k .row) (r .2);
             }
+
+-- each thing has a word at least, and starts inside: no more are pending than words are left
+row-fits : {A : Type 0} (Q : A → ℕ → ℕ → Type 0) (len : ℕ) → ((a : A) (at m : ℕ) → Q a at m → (at < len) × (at < m)) → (xs : List A) (at n : ℕ) → Row Q xs at n → 0 < length xs → at + length xs ≤ len
+row-fits Q len f [] at n r l = absurd (omega arith)
+row-fits Q len f (x ∷ []) at n r l = omega (arith, f x at (r .0) (r .1) .0)
+row-fits Q len f (x ∷ (y ∷ xs)) at n r l = let g = row-fits Q len f (y ∷ xs) (r .0) n (r .2) (omega arith) in omega (arith, f x at (r .0) (r .1) .1)
+
+pub pending-fits : {A : Type 0} {Q : A → ℕ → ℕ → Type 0} (len : ℕ) → ((a : A) (at m : ℕ) → Q a at m → (at < len) × (at < m)) → {p at n : ℕ} → Pending Q p at n → 0 < p → at + p ≤ len
+pending-fits {A} {Q} len f {p} {at} {n} h l = omega (arith, h .many, row-fits Q len f (h .things) at n (h .row) (omega (arith, h .many)))

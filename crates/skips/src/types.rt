@@ -1,22 +1,19 @@
 // Types and type expressions: each node says how many words it has and how many parts stand behind them.
+use crate::Node;
 use reading::Section;
 use rules::kinds::TypeKind;
 ghost use mathlib.Core.Path.{_≡_};
+ghost use mathlib.Core.Option.{Option};
 ghost use Prim.Native.Nat.{ℕ, _+_, _<_};
 ghost use lib.ListN.{getD};
 ghost use Rattle.rules.specs.Syntax.{ResolvedType, TypeExpr};
 ghost use Rattle.rules.specs.Kinds.{type-kind};
 ghost use Rattle.reading.specs.Verdict.{section-words, Lies};
-ghost use Rattle.pool_types.specs.TypeAt.{Type-at};
+ghost use Rattle.reading.specs.Gives.{Maybe-at};
+ghost use Rattle.pool_types.specs.TypeAt.{Type-at, Type-stands};
 ghost use Rattle.pool_type_exprs.specs.TypeExprAt.{Type-expr-at};
 ghost use Rattle.skips.specs.Pending.{Pending};
 ghost use Rattle.skips.specs.TypeNodes.{type-node};
-
-// A node's own words, and the parts that stand behind them.
-pub struct Node {
-    pub words: usize,
-    pub parts: usize,
-}
 
 // The node of a kind at a place.
 fn type_node(image: &[u8], pool: Section, at: usize, k: TypeKind) -> Node
@@ -66,4 +63,18 @@ pub fn skip_type(image: &[u8], pool: Section, at: usize) -> usize
     ensures expressions { λ r. ⌜ ((names : ℕ) (e : TypeExpr) (n : ℕ) → Type-expr-at names (section-words (now (image .entry)) pool) e at n → r ≡ n) ⌝ }
 {
     skip_types(image, pool, at, 1)
+}
+
+// The place behind 0, or 1 and a resolved type.
+pub fn skip_maybe_type(image: &[u8], pool: Section, at: usize) -> usize
+    requires { ⌜ Lies (now image) pool ⌝ }
+    ensures { λ r. ⌜ ((names : ℕ) (o : Option ResolvedType) (n : ℕ) → Maybe-at (section-words (now (image .entry)) pool) (Type-stands names (section-words (now (image .entry)) pool)) o at n → r ≡ n) ⌝ }
+{
+    if pool.len <= at {
+        return at;
+    }
+    if reading::section_word(image, pool, at) == 0 {
+        return at + 1;
+    }
+    skip_type(image, pool, at + 1)
 }
