@@ -1,33 +1,22 @@
--- Where a function's parts end, as the checks of the pool say it.
+-- A function's parts, from the places that the code has.
 use Prim.Native.Nat.{ℕ, _+_, _<_}
 use mathlib.Core.Path.{_≡_, sym, ap, subst, _∙_}
 use mathlib.Core.Bool.{true, false}
-use mathlib.Core.List.{List, [], _∷_, _++_, append-assoc}
+use mathlib.Core.List.{List, _∷_, _++_, append-assoc}
 use mathlib.Core.Option.{Option, none, some}
 use native.Mathlib.Omega.{arith}
 use native.Mathlib.Numerals.{add-one}
 use lib.ListN.{length, drop, getD, length-append}
 use lib.Seq.{drop-cons}
 use Rattle.rules.specs.Syntax.{ResolvedType, run, Param}
-use Rattle.rules.specs.Reader.{many, maybe}
-use Rattle.rules.specs.ReadTypes.{resolved-type, param}
-use Rattle.rules.specs.Output.{each, listed}
-use Rattle.rules.proofs.Good.{All}
-use Rattle.rules.proofs.Exact.{maybe-exact}
-use Rattle.rules.proofs.Types.{Stored, type-exact}
-use Rattle.laws.specs.DefinitionRuns.{typed-words, GoodParam}
-use Rattle.rules.proofs.Exact.{few-exact}
-use Rattle.laws.specs.Definitions.{param-exact}
+use Rattle.rules.proofs.Types.{Stored}
 use Rattle.held.specs.declared.types.HeldType.{HeldType}
 use Rattle.held.specs.declared.types.MaybeType.{MaybeType}
 use Rattle.held.specs.Holds.{Holds, MaybeHolds}
-use Rattle.reading.specs.declared.Checked.{Checked}
-use Rattle.reading.specs.Verdict.{Says}
-use Rattle.reading.specs.Gives.{Word, Row, Counted, Maybe-at}
+use Rattle.reading.specs.Gives.{Word, Counted, Maybe-at}
 use Rattle.reading.specs.Stands.{Stands}
 use Rattle.pool_types.specs.TypeAt.{Type-stands}
 use Rattle.pool_types.specs.ParamAt.{Param-at}
-use Rattle.stored.specs.Behind.{behind}
 
 module _ {ws : List ℕ} where
   -- a word before what stands
@@ -46,30 +35,12 @@ module _ {ws : List ℕ} where
 
 -- over the number of name rows and the words
 module _ (names : ℕ) (ws : List ℕ) where
-  abbrev Q : Param ResolvedType → ℕ → ℕ → Type 0
-  Q = Param-at names ws (Type-stands names ws)
+  -- from the code's places, which are the same
+  pub params-from : (ps : List (Param ResolvedType)) (n : ℕ) {place at : ℕ} → place ≡ at → Counted ws 32 (Param-at names ws (Type-stands names ws)) ps at n → Counted ws 32 (Param-at names ws (Type-stands names ws)) ps place n
+  params-from ps n e h = subst (λ (k : ℕ). Counted ws 32 (Param-at names ws (Type-stands names ws)) ps k n) (sym e) h
 
-  each-stands : (ps : List (Param ResolvedType)) (at n : ℕ) → Row Q ps at n → Stands ws (each (typed-words run) ps) at n
-  unfolding each
-  each-stands [] at n e = record { left = ap (λ (k : ℕ). drop k ws) e; next = omega arith }
-  each-stands (p ∷ ps) at n r = run-behind (word-before (r .1 .name-at) (r .1 .type-at .words-at)) (each-stands ps (r .0) n (r .2))
-
-  each-good : (ps : List (Param ResolvedType)) (at n : ℕ) → Row Q ps at n → All (GoodParam names (Stored names)) ps
-  each-good [] at n e = tt
-  each-good (p ∷ ps) at n r = (record { name = r .1 .name-below; ty = r .1 .type-at .good }, each-good ps (r .0) n (r .2))
-
-  -- the check of the parameters ends behind them
-  pub params-behind : (ps : List (Param ResolvedType)) (at n : ℕ) → Counted ws 32 Q ps at n → {place : ℕ} → place ≡ at → (c : Checked) → Says (many 32 (param names (resolved-type names))) ws place c → c .next ≡ n
-  unfolding listed
-  params-behind ps at n k e c i = let h : Says (many 32 (param names (resolved-type names))) ws at c = subst (λ (j : ℕ). Says (many 32 (param names (resolved-type names))) ws j c) e i in behind (few-exact (param-exact names (type-exact names)) 32) ps (record { few = k .1; each = each-good ps (at + 1) n (k .2) }) (word-before (k .0) (each-stands ps (at + 1) n (k .2))) h
-
-  -- the check of the return ends behind it
-  pub return-behind : (o : Option ResolvedType) (at n : ℕ) → Maybe-at ws (Type-stands names ws) o at n → {place : ℕ} → place ≡ at → (c : Checked) → Says (maybe (resolved-type names)) ws place c → c .next ≡ n
-  return-behind o at n k e c h = go o k (subst (λ (j : ℕ). Says (maybe (resolved-type names)) ws j c) e h)
-    where
-      go : (o : Option ResolvedType) → Maybe-at ws (Type-stands names ws) o at n → Says (maybe (resolved-type names)) ws at c → c .next ≡ n
-      go none k h = behind (maybe-exact (type-exact names)) none tt (word-before (k .0) (record { left = ap (λ (j : ℕ). drop j ws) (sym (k .1)); next = omega (arith, k .1) })) h
-      go (some t) k h = behind (maybe-exact (type-exact names)) (some t) (k .1 .good) (word-before (k .0) (k .1 .words-at)) h
+  pub return-from : (o : Option ResolvedType) (n : ℕ) {place at : ℕ} → place ≡ at → Maybe-at ws (Type-stands names ws) o at n → Maybe-at ws (Type-stands names ws) o place n
+  return-from o n e h = subst (λ (k : ℕ). Maybe-at ws (Type-stands names ws) o k n) (sym e) h
 
   -- the return that stands there, held or none
   pub no-return : (o : Option ResolvedType) (at n w : ℕ) → Maybe-at ws (Type-stands names ws) o at n → w ≡ getD ws at 0 → w ≡ 0 → (m : MaybeType) → m .some ≡ false → MaybeHolds names m o

@@ -79,8 +79,6 @@ pub fn body_start(image: &[u8], l: Layout, at: usize) -> usize
     ensures { λ r. ⌜ ((f : ImplFnDef) (n : ℕ) (h : Function-stands (l .names .rows) (l .strings .rows) (pool-words (now (image .entry)) l) f at n) → r ≡ h .parts .return-end) ⌝ }
 {
     let pool = l.pool;
-    let names = l.names;
     let place = crate::parts::return_start(image, l, at);
-    let c = pool_types::resolved::check_maybe_type(image, pool, place, names.rows);
-    c.next
+    skips::types::skip_maybe_type(image, pool, place)
 }

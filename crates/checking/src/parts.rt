@@ -18,10 +18,8 @@ pub fn return_start(image: &[u8], l: Layout, at: usize) -> usize
     ensures { λ r. ⌜ ((f : ImplFnDef) (n : ℕ) (h : Function-stands (l .names .rows) (l .strings .rows) (pool-words (now (image .entry)) l) f at n) → r ≡ h .parts .params-end) ⌝ }
 {
     let pool = l.pool;
-    let names = l.names;
     let place = fields::after(pool, at);
-    let c = pool_types::resolved::check_params(image, pool, place, names.rows, 32);
-    c.next
+    skips::functions::skip_params(image, pool, place)
 }
 
 // The return at `at`: 0, or 1 and its type.

@@ -10,18 +10,14 @@ use lib.Dec.{eqb}
 use Rattle.rules.specs.Syntax.{ResolvedType, run, Param}
 use Rattle.rules.specs.Options.{or-else}
 use Rattle.rules.specs.Infer.{find-last}
-use Rattle.rules.specs.ReadTypes.{resolved-type}
-use Rattle.rules.proofs.Types.{Stored, type-exact}
+use Rattle.rules.proofs.Types.{Stored}
 use Rattle.held.specs.declared.types.HeldType.{HeldType}
 use Rattle.held.specs.declared.types.MaybeType.{MaybeType}
 use Rattle.held.specs.Holds.{Holds, MaybeHolds}
-use Rattle.reading.specs.declared.Checked.{Checked}
-use Rattle.reading.specs.Verdict.{Says}
 use Rattle.reading.specs.Gives.{Row}
 use Rattle.reading.specs.Stands.{Stands}
-use Rattle.pool_types.specs.TypeAt.{Type-stands}
+use Rattle.pool_types.specs.TypeAt.{Type-at, Type-stands}
 use Rattle.pool_types.specs.ParamAt.{Param-at}
-use Rattle.stored.specs.Behind.{behind}
 use Rattle.fields.specs.Fields.{Fields, Place}
 
 or-none : {A : Type 0} (o : Option A) → or-else o none ≡ o
@@ -63,18 +59,18 @@ module _ (rows : ℕ) (ws : List ℕ) (x : ℕ) where
   picked false place best t so-far z m s g p = p
 
   pub turned : {ps : List (Param ResolvedType)} {n count i next best : ℕ} → Left ps n count i next best → i < count → (place name : ℕ) → (next < length ws → place ≡ next + 1) → name ≡ getD ws next 0
-      → (c : Checked) → Says (resolved-type rows) ws place c → {new : ℕ} → new ≡ cond (eqb x name) place best → Left ps n count (i + 1) (c .next) new
+      → (behind : ℕ) → ((t : ResolvedType) (m : ℕ) → Type-at rows ws t place m → behind ≡ m) → {new : ℕ} → new ≡ cond (eqb x name) place best → Left ps n count (i + 1) behind new
   unfolding find-last
-  turned {ps} {n} {count} {i} {next} {best} w l place name a e c h {new} o = subst (Left ps n count (i + 1) (c .next)) (sym o) (go (w .rest) (w .many) (w .row) (w .all))
+  turned {ps} {n} {count} {i} {next} {best} w l place name a e behind h {new} o = subst (Left ps n count (i + 1) behind) (sym o) (go (w .rest) (w .many) (w .row) (w .all))
     where
       go : (rest : List (Param ResolvedType)) → i + length rest ≡ count → Row (Param-at rows ws (Type-stands rows ws)) rest next n → or-else (find-last x rest) (w .so-far) ≡ find-last x ps
-          → Left ps n count (i + 1) (c .next) (cond (eqb x name) place best)
+          → Left ps n count (i + 1) behind (cond (eqb x name) place best)
       go [] m r q = absurd (omega arith)
       go (p ∷ rest) m r q =
           let k : place ≡ next + 1 = a (r .1 .name-at .inside) in
           let s : Stands ws (run (p .ty)) place (r .0) = subst (λ (j : ℕ). Stands ws (run (p .ty)) j (r .0)) (sym k) (r .1 .type-at .words-at) in
           let g = r .1 .type-at .good in
-          let b : c .next ≡ r .0 = behind (type-exact rows) (p .ty) g s h in
+          let b : behind ≡ r .0 = h (p .ty) (r .0) (subst (λ (j : ℕ). Type-at rows ws (p .ty) j (r .0)) (sym k) (r .1 .type-at .parts)) in
           let y : name ≡ p .name = e ∙ r .1 .name-at .is in
           record {
             rest = rest;

@@ -35,7 +35,6 @@ pub fn find_field(image: &[u8], l: Layout, at: usize, x: NameId) -> usize
     ensures { λ r. ⌜ ((ps : List (Param ResolvedType)) (n : ℕ) → Fields (l .names .rows) (pool-words (now (image .entry)) l) ps at n → Place (l .names .rows) (pool-words (now (image .entry)) l) r (find-last (x .0) ps)) ⌝ }
 {
     let pool = l.pool;
-    let names = l.names;
     let count = reading::section_word(image, pool, at);
     let mut i = 0;
     let mut next = after(pool, at);
@@ -48,8 +47,7 @@ pub fn find_field(image: &[u8], l: Layout, at: usize, x: NameId) -> usize
             NameId(reading::section_word(image, pool, next)),
             x,
         );
-        let c = pool_types::resolved::check_type(image, pool, place, names.rows);
-        next = c.next;
+        next = skips::types::skip_type(image, pool, place);
         i += 1;
     }
     best

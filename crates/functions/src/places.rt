@@ -23,16 +23,7 @@ pub fn after_function(image: &[u8], l: Layout, at: usize) -> usize
     ensures { λ r. ⌜ ((f : ImplFnDef) (n : ℕ) → Function-here (now (image .entry)) l f at n → r ≡ n) ⌝ }
 {
     let pool = l.pool;
-    let names = l.names;
-    let strings = l.strings;
-    let c = pool_definitions::implementations::check_impl_function(
-        image,
-        pool,
-        at,
-        names.rows,
-        strings.rows,
-    );
-    c.next
+    skips::functions::skip_function(image, pool, at)
 }
 
 // The place behind a trait's function.
@@ -41,7 +32,5 @@ pub fn after_asked(image: &[u8], l: Layout, at: usize) -> usize
     ensures { λ r. ⌜ ((f : TraitFnDef) (n : ℕ) → Asked-here (now (image .entry)) l f at n → r ≡ n) ⌝ }
 {
     let pool = l.pool;
-    let names = l.names;
-    let c = pool_definitions::traits::check_trait_function(image, pool, at, names.rows);
-    c.next
+    skips::functions::skip_trait_function(image, pool, at)
 }

@@ -84,10 +84,7 @@ pub fn skip_expr(image: &[u8], l: Layout, at: usize, nest: u32) -> usize
     ensures { λ r. ⌜ AtExpr (now (image .entry)) l nest at (λ e n. r ≡ n) ⌝ }
 {
     let pool = l.pool;
-    let names = l.names;
-    let strings = l.strings;
-    let c = pool_bodies::expressions::check_expr(image, pool, at, names.rows, strings.rows, nest);
-    c.next
+    skips::exprs::skip_expr(image, pool, at)
 }
 
 // The type of a field access, if its receiver is SelfRef.

@@ -41,8 +41,5 @@ pub fn skip_statement(image: &[u8], l: Layout, at: usize) -> usize
     ensures { λ r. ⌜ ((s : Statement) (n : ℕ) → Statement-stands (l .names .rows) (l .strings .rows) (pool-words (now (image .entry)) l) s at n → r ≡ n) ⌝ }
 {
     let pool = l.pool;
-    let names = l.names;
-    let strings = l.strings;
-    let c = pool_bodies::statements::check_statement(image, pool, at, names.rows, strings.rows);
-    c.next
+    skips::statements::skip_statement(image, pool, at)
 }

@@ -41,9 +41,7 @@ pub fn hold_type(image: &[u8], l: Layout, at: usize) -> Held
     ensures { λ r. ⌜ Types (l .names .rows) (pool-words (now (image .entry)) l) at r ⌝ }
 {
     let pool = l.pool;
-    let names = l.names;
-    let c = pool_types::resolved::check_type(image, pool, at, names.rows);
-    let n = c.next;
+    let n = skips::types::skip_type(image, pool, at);
     Held {
         ty: copy(image, pool, at, n),
         next: n,

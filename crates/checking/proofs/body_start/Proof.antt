@@ -1,6 +1,6 @@
 -- `checking::body_start` meets its contract. Assumes nothing.
 use borrow.Author.Needs.{needs}
-use Rattle.checking.specs.Ends.{return-behind}
+use Rattle.checking.specs.Ends.{return-from}
 use Rattle.checking.proofs.body_start.Statement.{statement}
 use Rattle.checking.proofs.body_start.Tie as tie
 
@@ -10,4 +10,4 @@ body-start-spec =
     (tie.spec
     (λ c κs. search needs)
     (λ c κs. search needs)
-    (λ c. λ f n h. return-behind _ _ (f .return-type) _ _ (h .parts .return-at) (c .before .return-start .ensures f n h) _ (c .check-maybe-type .ensures)))
+    (λ c. λ f n h. c .skip-maybe-type .ensures _ (f .return-type) (h .parts .return-end) (return-from _ _ (f .return-type) (h .parts .return-end) (c .before .return-start .ensures f n h) (h .parts .return-at))))

@@ -12,10 +12,10 @@ use Rattle.fields.proofs.find_field.Statement.{statement}
 use Rattle.fields.proofs.find_field.Tie as tie
 
 abbrev Inv-loop : tie.InvT-loop
-Inv-loop image at x pool names count i₀ next₀ best₀ i next best = (ps : List (Param ResolvedType)) (n : ℕ) → Fields (names .rows) (section-words image pool) ps at n → Left (names .rows) (section-words image pool) (x .0) ps n count i next best
+Inv-loop image at x pool count i₀ next₀ best₀ i next best = (rows : ℕ) (ps : List (Param ResolvedType)) (n : ℕ) → Fields rows (section-words image pool) ps at n → Left rows (section-words image pool) (x .0) ps n count i next best
 
 abbrev μ-loop : tie.MeasureT-loop
-μ-loop image at x pool names count i₀ next₀ best₀ i next best = count - i
+μ-loop image at x pool count i₀ next₀ best₀ i next best = count - i
 
 pub find-field-spec : {M : Type 1} → statement M
 find-field-spec =
@@ -25,12 +25,12 @@ find-field-spec =
     μ-loop
     (λ c κs. search needs)
     (λ c κs. search needs)
-    (λ c. λ ps n f. started _ _ _ ps _ n f _ _ (c .before .section-word .ensures) (λ h. c .after .ensures (omega (arith, length-section (c .before .before .before .before .before .pre .pool)))))
+    (λ c. λ rows ps n f. started rows _ _ ps _ n f _ _ (c .before .section-word .ensures) (λ h. c .after .ensures (omega (arith, length-section (c .before .before .before .before .pre .pool)))))
     (λ c κs. search needs)
     (λ c κs. search needs)
     (λ c κs. search needs)
     (λ c κs. search needs)
     (λ c. search needs)
     (λ c. search needs)
-    (λ c. λ ps n f. turned _ _ _ (c .before .before .before .before .before .loop .inv ps n f) (c .before .before .before .before .loop-test .taken) _ _ (λ h. c .before .before .before .after2 .ensures (omega (arith, length-section (c .before .before .before .before .before .before .before .before .before .before .before .pre .pool)))) (c .before .before .section-word2 .ensures) _ (c .check-type .ensures) (c .before .pick .ensures))
-    (λ c. λ ps n f. done _ _ _ (c .before .loop .inv ps n f) (c .loop-test .left)))
+    (λ c. λ rows ps n f. turned rows _ _ (c .before .before .before .before .before .loop .inv rows ps n f) (c .before .before .before .before .loop-test .taken) _ _ (λ h. c .before .before .before .after2 .ensures (omega (arith, length-section (c .before .before .before .before .before .before .before .before .before .before .pre .pool)))) (c .before .before .section-word2 .ensures) _ (λ t m. c .skip-type .ensures .0 rows t m) (c .before .pick .ensures))
+    (λ c. λ ps n f. done _ _ _ (c .before .loop .inv _ ps n f) (c .loop-test .left)))

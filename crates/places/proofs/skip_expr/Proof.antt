@@ -1,7 +1,9 @@
--- `places::skip_expr` meets its contract. Assumes nothing.
+-- `places::skip_expr` meets its contract: an expression whose words stand there has its parts there. Assumes nothing.
 use borrow.Author.Needs.{needs}
 use Rattle.laws.specs.Expressions.{tree-exact}
-use Rattle.stored.specs.Behind.{behind}
+use Rattle.reading.specs.Gives.{of}
+use Rattle.pool_bodies.specs.ExprAt.{expr-tree-gives}
+use Rattle.stored.specs.Behind.{reads-at}
 use Rattle.places.proofs.skip_expr.Statement.{statement}
 use Rattle.places.proofs.skip_expr.Tie as tie
 
@@ -10,4 +12,4 @@ skip-expr-spec =
     tie.close
     (tie.spec
     (λ c κs. search needs)
-    (λ c. λ e n s. behind (tree-exact _ _ _) e (s .nested) (s .words-at) (c .check-expr .ensures)))
+    (λ c. λ e n s. c .skip-expr .ensures _ _ e n (of (expr-tree-gives _ _ _ _ _) (reads-at (tree-exact _ _ _) e (s .nested) (s .words-at)) .1)))

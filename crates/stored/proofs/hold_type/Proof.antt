@@ -4,17 +4,19 @@ use mathlib.Core.Path.{sym, subst}
 use borrow.Author.Needs.{needs}
 use Rattle.rules.specs.Syntax.{run}
 use Rattle.rules.proofs.Types.{type-exact}
+use Rattle.reading.specs.Gives.{of}
 use Rattle.reading.specs.Stands.{Stands}
 use Rattle.layout.specs.Open.{pool-words}
 use Rattle.held.proofs.Trees.{holds}
-use Rattle.stored.specs.Behind.{behind}
+use Rattle.pool_types.specs.TypeAt.{type-gives}
+use Rattle.stored.specs.Behind.{reads-at}
 use Rattle.stored.proofs.hold_type.Statement.{statement}
 use Rattle.stored.proofs.hold_type.Tie as tie
 
 returns : tie.Need-returns
 returns c t n s g =
-    let a = c .before .before .before .before .before .args in
-    let e = behind (type-exact (a .l .names .rows)) t g s (c .before .check-type .ensures) in
+    let a = c .before .before .before .before .args in
+    let e = c .before .skip-type .ensures .0 (a .l .names .rows) t n (of (type-gives (a .l .names .rows) _ _) (reads-at (type-exact (a .l .names .rows)) t g s) .1 .parts) in
     (holds (a .l .names .rows) (c .copy .ensures (run t) (subst (λ (k : ℕ). Stands (pool-words (a .image .now) (a .l)) (run t) (a .at) k) (sym e) s) (g .short)) (g .good), e)
 
 pub hold-type-spec : {M : Type 1} → statement M

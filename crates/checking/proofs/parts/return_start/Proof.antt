@@ -2,7 +2,7 @@
 use borrow.Author.Needs.{needs}
 use native.Mathlib.Omega.{arith}
 use Rattle.reading.specs.Sections.{length-section}
-use Rattle.checking.specs.Ends.{params-behind}
+use Rattle.checking.specs.Ends.{params-from}
 use Rattle.checking.proofs.parts.return_start.Statement.{statement}
 use Rattle.checking.proofs.parts.return_start.Tie as tie
 
@@ -12,4 +12,4 @@ return-start-spec =
     (tie.spec
     (λ c κs. search needs)
     (λ c κs. search needs)
-    (λ c. λ f n h. params-behind _ _ (f .params) _ _ (h .parts .params-at) (c .before .after .ensures (omega (arith, h .parts .name-at .inside, length-section (c .before .before .before .before .before .pre .pool)))) _ (c .check-params .ensures)))
+    (λ c. λ f n h. c .skip-params .ensures .0 _ 32 (f .params) (h .parts .params-end) (params-from _ _ (f .params) (h .parts .params-end) (c .before .after .ensures (omega (arith, h .parts .name-at .inside, length-section (c .before .before .before .before .pre .pool)))) (h .parts .params-at))))

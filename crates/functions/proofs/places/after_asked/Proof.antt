@@ -1,7 +1,5 @@
 -- `functions::places::after_asked` meets its contract. Assumes nothing.
 use borrow.Author.Needs.{needs}
-use Rattle.laws.specs.Definitions.{trait-function-exact}
-use Rattle.stored.specs.Behind.{behind}
 use Rattle.functions.proofs.places.after_asked.Statement.{statement}
 use Rattle.functions.proofs.places.after_asked.Tie as tie
 
@@ -10,4 +8,4 @@ after-asked-spec =
     tie.close
     (tie.spec
     (λ c κs. search needs)
-    (λ c. λ f n h. behind (trait-function-exact _) f (h .good) (h .words-at) (c .check-trait-function .ensures)))
+    (λ c. λ f n h. c .skip-trait-function .ensures _ f n (h .parts)))

@@ -1,7 +1,5 @@
 -- `statements::parts::skip_statement` meets its contract. Assumes nothing.
 use borrow.Author.Needs.{needs}
-use Rattle.laws.specs.Statements.{statement-exact}
-use Rattle.stored.specs.Behind.{behind}
 use Rattle.statements.proofs.parts.skip_statement.Statement.{statement}
 use Rattle.statements.proofs.parts.skip_statement.Tie as tie
 
@@ -10,4 +8,4 @@ skip-statement-spec =
     tie.close
     (tie.spec
     (λ c κs. search needs)
-    (λ c. λ s n h. behind (statement-exact _ _) s (h .good) (h .words-at) (c .check-statement .ensures)))
+    (λ c. λ s n h. c .skip-statement .ensures _ _ s n (h .parts)))

@@ -1,0 +1,12 @@
+-- `skips::exprs::skip_expr` meets its contract. Assumes nothing.
+use borrow.Author.Needs.{needs}
+use Rattle.skips.specs.Pending.{one-left}
+use Rattle.skips.proofs.exprs.skip_expr.Statement.{statement}
+use Rattle.skips.proofs.exprs.skip_expr.Tie as tie
+
+pub skip-expr-spec : {M : Type 1} → statement M
+skip-expr-spec =
+    tie.close
+    (tie.spec
+    (λ c κs. search needs)
+    (λ c. λ names strings e n h. c .skip-exprs .ensures names strings n (one-left e h)))
