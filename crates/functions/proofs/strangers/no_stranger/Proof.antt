@@ -45,12 +45,12 @@ no-stranger-spec =
     (λ c. λ ts m k fs h.
     let e = c .before .before .before .before .before .before .before .before .before .before .section-word .ensures ∙ k .0 .is in
     let known-is = ap (λ (j : ℕ). take j (c .before .before .before .before .before .before .before .before .before .before .before .function-names .result)) (c .before .before .before .before .before .before .before .before .before .few .ensures .0 (omega (arith, k .1, e)) ∙ e) ∙ c .before .before .before .before .before .before .before .before .before .before .before .function-names .ensures ts m k in
-    not-known _ (c .before .before .before .before .before .before .before .before .before .before .before .before .before .before .before .args .l) _ _ _ (c .before .before .before .before .before .before .before .before .loop .inv ts m k fs h) (c .before .before .before .before .before .before .before .loop-test .taken) (c .before .before .before .before .before .name-at .ensures .0) (ap (member _) (sym known-is) ∙ sym (c .before .before .before .listed .ensures) ∙ not-true _ (c .before .before .if1 .taken)) (c .refused .ensures .0) (ap refusal-of (c .refused .ensures .1) ∙ c .before .at .ensures))
+    not-known _ (c .before .before .before .before .before .before .before .before .before .before .before .before .before .before .before .args .l) _ _ _ (c .before .before .before .before .before .before .before .before .loop .inv ts m k fs h) (omega arith) (c .before .before .before .before .before .name-at .ensures .0) (ap (member _) (sym known-is) ∙ sym (c .before .before .before .listed .ensures) ∙ not-true _ (c .before .before .if1 .taken)) (c .refused .ensures .0) (ap refusal-of (c .refused .ensures .1) ∙ c .before .at .ensures))
     (λ c. search needs)
     (λ c. search needs)
     (λ c. λ ts m k fs h.
     let e = c .before .before .before .before .before .before .before .before .section-word .ensures ∙ k .0 .is in
     let known-is = ap (λ (j : ℕ). take j (c .before .before .before .before .before .before .before .before .before .function-names .result)) (c .before .before .before .before .before .before .before .few .ensures .0 (omega (arith, k .1, e)) ∙ e) ∙ c .before .before .before .before .before .before .before .before .before .function-names .ensures ts m k in
-    known _ (c .before .before .before .before .before .before .before .before .before .before .before .before .before .args .l) _ _ _ (c .before .before .before .before .before .before .loop .inv ts m k fs h) (c .before .before .before .before .before .loop-test .taken) (c .before .before .before .name-at .ensures .0) (ap (member _) (sym known-is) ∙ sym (c .before .listed .ensures) ∙ not-false _ (c .if1 .left)))
+    known _ (c .before .before .before .before .before .before .before .before .before .before .before .before .before .args .l) _ _ _ (c .before .before .before .before .before .before .loop .inv ts m k fs h) (omega arith) (c .before .before .before .name-at .ensures .0) (ap (member _) (sym known-is) ∙ sym (c .before .listed .ensures) ∙ not-false _ (c .if1 .left)))
     (λ c κs. search needs)
-    (λ c. λ ts m k fs h. all-known _ (c .before .before .before .before .before .before .before .before .before .args .l) _ _ _ (c .before .before .loop .inv ts m k fs h) (c .before .loop-test .left) (c .accepted .ensures .0)))
+    (λ c. λ ts m k fs h. all-known _ (c .before .before .before .before .before .before .before .before .before .args .l) _ _ _ (c .before .before .loop .inv ts m k fs h) (omega arith) (c .accepted .ensures .0)))
