@@ -1,5 +1,4 @@
 // The C forms, for Rust or C to link.
-mod block;
 mod project_call;
 mod signatures_call;
 

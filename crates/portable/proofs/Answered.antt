@@ -9,17 +9,13 @@ use native.Mathlib.Decide.{decLe}
 use lib.ListN.{length}
 use borrow.Author.Tests.{lt-ltb, le-ltb}
 use Rattle.rules.specs.Syntax.{CompiledSchema}
-use Rattle.rules.specs.Options.{is-some}
 use Rattle.rules.specs.Image.{readable}
 use Rattle.rules.specs.Refusal.{Result, refusal}
 use Rattle.rules.specs.Answer.{Answer, refused, finished, answered, project-call, signatures-call, project-answer, signatures-answer}
-use Rattle.reading.specs.Steps.{true-false}
-use Rattle.layout.specs.declared.Opened.{Opened}
 use Rattle.layout.specs.Rows.{Cut}
 use Rattle.layout.specs.Open.{Open}
-use Rattle.image.specs.Verdict.{Verdict}
-use Rattle.portable.specs.declared.Front.{Front}
-use Rattle.portable.specs.Fronts.{Fronts}
+use Rattle.front.specs.declared.Front.{Front}
+use Rattle.front.specs.Fronts.{Fronts}
 
 -- the two calls
 pub signatures-is : (image : List ℕ) (number : ℕ) (output detail : List ℕ) → signatures-answer image number output detail ≡ answered (signatures-call number) image output detail
@@ -80,13 +76,3 @@ goes {image} {room} {r} f z = by-room (decLe 576 room)
     by-room : Dec (576 ≤ room) → Goes image room r
     by-room (yes h) = by-reading h (readable image) refl
     by-room (no h) = absurd (omega (arith, f .short (omega arith)))
-
--- a verdict that is not ok, and one that is
-module _ {image : List ℕ} {r : Opened} (v : Verdict image r) where
-  pub not-some : r .ok ≡ false → (s : CompiledSchema) → readable image ≡ some s → ⊥
-  unfolding is-some
-  not-some n s e = true-false (sym (v .ok ∙ ap is-some e) ∙ n)
-
-  pub not-none : r .ok ≡ true → readable image ≡ none → ⊥
-  unfolding is-some
-  not-none y e = true-false (sym y ∙ v .ok ∙ ap is-some e)

@@ -1,32 +1,10 @@
 // The public calls: an image, an implementation's number and two lent buffers in, an answer out.
 use answers::answer::Answer;
-use layout::Layout;
+use front::look;
 use rules::ids::TypeId;
 ghost use mathlib.Core.Path.{_≡_};
 ghost use Rattle.rules.specs.Answer.{project-answer, signatures-answer};
 ghost use Rattle.answers.specs.Answers.{answer-of};
-ghost use Rattle.portable.specs.Fronts.{Fronts};
-
-// What comes before a call: 1 or 2, or 0 and the readable image's layout.
-struct Front {
-    number: u32,
-    layout: Layout,
-}
-
-// 1 where a detail of so many bytes is lent that a refusal's may not fit it, then 2.
-fn look(image: &[u8], room: usize) -> Front
-    ensures { λ r. ⌜ Fronts (now (image .entry)) room r ⌝ }
-{
-    let o = image::read_image(image);
-    let layout = o.layout;
-    if room < 576 {
-        return Front { number: 1, layout };
-    }
-    if !o.ok {
-        return Front { number: 2, layout };
-    }
-    Front { number: 0, layout }
-}
 
 // The signatures that an implementation's trait asks for.
 pub fn expected_signatures(

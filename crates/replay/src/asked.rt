@@ -1,7 +1,9 @@
 // A case asked again, and its answer compared.
-use crate::case::Case;
 use answers::answer::Answer;
+use cases::buffers::holds;
+use cases::case::Case;
 use rules::ids::TypeId;
+use std::num::wrapping_add_usize;
 
 // The calls as the file names them.
 pub const PROJECT_IMPL: u32 = 0;
@@ -24,7 +26,7 @@ pub struct Compared {
 
 impl Compared {
     pub fn same(self) -> bool {
-        self.fields && self.output && self.detail
+        self.fields & self.output & self.detail
     }
 }
 
@@ -32,40 +34,11 @@ impl Compared {
 fn same_fields(file: &[u8], at: usize, a: Answer) -> bool {
     let function = a.function;
     let second = a.second;
-    if words::word_at(file, at) != a.number {
-        return false;
-    }
-    if words::word_at(file, std::num::wrapping_add_usize(at, 4)) != function.0 {
-        return false;
-    }
-    if words::word_at(file, std::num::wrapping_add_usize(at, 8)) != second.0 {
-        return false;
-    }
-    if words::word_at(file, std::num::wrapping_add_usize(at, 12)) != a.length {
-        return false;
-    }
-    words::word_at(file, std::num::wrapping_add_usize(at, 16)) == a.visits
-}
-
-// Whether a buffer holds the stored bytes, and behind them what it was filled with.
-fn holds(buffer: &[u8], stored: &[u8], fill: u8) -> bool {
-    if buffer.len() < stored.len() {
-        return false;
-    }
-    let mut i = 0;
-    while i < stored.len() {
-        if buffer[i] != stored[i] {
-            return false;
-        }
-        i += 1;
-    }
-    while i < buffer.len() {
-        if buffer[i] != fill {
-            return false;
-        }
-        i += 1;
-    }
-    true
+    (words::word_at(file, at) == a.number)
+        & (words::word_at(file, wrapping_add_usize(at, 4)) == function.0)
+        & (words::word_at(file, wrapping_add_usize(at, 8)) == second.0)
+        & (words::word_at(file, wrapping_add_usize(at, 12)) == a.length)
+        & (words::word_at(file, wrapping_add_usize(at, 16)) == a.visits)
 }
 
 // Either call.
@@ -78,14 +51,14 @@ fn answer(call: u32, image: &[u8], number: TypeId, output: &mut [u8], detail: &m
 
 // Asks with the two lent buffers.
 fn ask(file: &[u8], c: Case, output: &mut [u8], detail: &mut [u8]) -> Compared {
-    let image = crate::case::bytes(file, c.image);
+    let image = cases::case::bytes(file, c.image);
     let a = answer(c.call, image, c.row, output, detail);
     Compared {
         fields: same_fields(file, c.fields, a),
-        output: holds(output, crate::case::bytes(file, c.written), OUTPUT_FILL),
-        detail: holds(detail, crate::case::bytes(file, c.told), DETAIL_FILL),
+        output: holds(output, cases::case::bytes(file, c.written), OUTPUT_FILL),
+        detail: holds(detail, cases::case::bytes(file, c.told), DETAIL_FILL),
         answer: a,
-        bytes: std::num::wrapping_add_usize(output.len(), detail.len()),
+        bytes: wrapping_add_usize(output.len(), detail.len()),
     }
 }
 
@@ -93,7 +66,7 @@ fn ask(file: &[u8], c: Case, output: &mut [u8], detail: &mut [u8]) -> Compared {
 pub fn compare(file: &[u8], c: Case) -> Compared {
     let mut output = [170u8; 65536];
     let mut detail = [85u8; 1024];
-    let n = crate::case::least(c.output, 65536);
-    let m = crate::case::least(c.detail, 1024);
+    let n = cases::case::least(c.output, 65536);
+    let m = cases::case::least(c.detail, 1024);
     ask(file, c, &mut output[..n], &mut detail[..m])
 }

@@ -1,12 +1,12 @@
 // Replays the stored cases: five fields and every byte of both buffers of each answer are compared. It writes what
 // differs, the edge cases that have names of their own, and how much was compared.
 mod asked;
-mod case;
-mod labels;
 mod told;
 
 use asked::Compared;
-use case::Case;
+use cases::case;
+use cases::case::Case;
+use cases::labels;
 ghost use mathlib.Core.Path.{_≡_};
 ghost use lib.ListN.{length};
 
@@ -86,7 +86,8 @@ fn main() {
     let of_names = asking::input::read_file(b"labels.txt", &mut names);
     let n = of_file.len;
     let m = of_names.len;
-    if !of_file.ok || !of_names.ok {
+    let ok = of_file.ok & of_names.ok;
+    if !ok {
         told::unread();
         return;
     }

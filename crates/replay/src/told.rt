@@ -30,19 +30,20 @@ fn fields(a: Answer) {
     print_number(a.visits, b'\n');
 }
 
+// A part's name, where the part is not as stored.
+fn part(same: bool, name: &[u8]) {
+    if !same {
+        text(name);
+    }
+}
+
 // What differs in a case.
 fn differs(label: &[u8], c: Compared) {
     text(b"DIFFERS: ");
     text(label);
-    if !c.fields {
-        text(b", fields");
-    }
-    if !c.output {
-        text(b", output");
-    }
-    if !c.detail {
-        text(b", detail");
-    }
+    part(c.fields, b", fields");
+    part(c.output, b", output");
+    part(c.detail, b", detail");
     text(b": answered ");
     let a = c.answer;
     fields(a);
@@ -53,7 +54,7 @@ pub fn case(label: &[u8], c: Compared) {
     if !c.same() {
         differs(label, c);
     }
-    if crate::labels::is_named(label) {
+    if cases::labels::is_named(label) {
         text(label);
         text(b": ");
         let a = c.answer;

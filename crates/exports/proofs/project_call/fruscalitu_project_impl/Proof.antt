@@ -1,7 +1,7 @@
 use borrow.Author.Needs.{needs}
 use native.Mathlib.Omega.{arith}
 use denote.Ref.{now}
-use Rattle.exports.proofs.Blocks.{exported, exported-short}
+use Rattle.blocks.proofs.Blocks.{exported, exported-short}
 use Rattle.exports.proofs.project_call.fruscalitu_project_impl.Statement.{statement}
 use Rattle.exports.proofs.project_call.fruscalitu_project_impl.Tie as tie
 

@@ -1,7 +1,7 @@
 use borrow.Author.Needs.{needs}
 use native.Mathlib.Omega.{arith}
 use denote.Ref.{now}
-use Rattle.exports.proofs.Blocks.{exported, exported-short}
+use Rattle.blocks.proofs.Blocks.{exported, exported-short}
 use Rattle.exports.proofs.signatures_call.fruscalitu_expected_signatures.Statement.{statement}
 use Rattle.exports.proofs.signatures_call.fruscalitu_expected_signatures.Tie as tie
 

@@ -4,7 +4,7 @@ ghost use Prim.Native.Nat.{_≤_};
 ghost use mathlib.Core.Path.{_≡_};
 ghost use lib.ListN.{length};
 ghost use Rattle.rules.specs.Words.{over-start};
-ghost use Rattle.exports.specs.Block.{words-of};
+ghost use Rattle.blocks.specs.Block.{words-of};
 
 // What a call answers, and touches nothing, where the block has fewer than five words. No number of the rules.
 pub const SHORT_BLOCK: u32 = 4294967295;

@@ -3,10 +3,10 @@ use mathlib.Core.Path.{refl}
 use native.Mathlib.Omega.{arith}
 use denote.Ref.{now}
 use lib.ListN.{length-set}
-use Rattle.exports.specs.Block.{words-of}
-use Rattle.exports.proofs.Blocks.{stored}
-use Rattle.exports.proofs.block.put_answer.Statement.{statement}
-use Rattle.exports.proofs.block.put_answer.Tie as tie
+use Rattle.blocks.specs.Block.{words-of}
+use Rattle.blocks.proofs.Blocks.{stored}
+use Rattle.blocks.proofs.put_answer.Statement.{statement}
+use Rattle.blocks.proofs.put_answer.Tie as tie
 
 slice-write-block : tie.Need-slice-write-block
 slice-write-block c = search needs

@@ -1,8 +1,8 @@
 use mathlib.Core.Path.{sym}
 use lib.Seq.{length-take-le}
 use borrow.Author.Needs.{needs}
-use Rattle.replay.proofs.case.bytes.Statement.{statement}
-use Rattle.replay.proofs.case.bytes.Tie as tie
+use Rattle.cases.proofs.case.bytes.Statement.{statement}
+use Rattle.cases.proofs.case.bytes.Tie as tie
 
 slice-aggregate-result : tie.Need-slice-aggregate-result
 slice-aggregate-result c = search needs

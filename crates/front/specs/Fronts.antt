@@ -7,7 +7,7 @@ use Rattle.rules.specs.Syntax.{CompiledSchema}
 use Rattle.rules.specs.Image.{readable}
 use Rattle.layout.specs.Rows.{Cut}
 use Rattle.layout.specs.Open.{Open}
-use Rattle.portable.specs.declared.Front.{Front}
+use Rattle.front.specs.declared.Front.{Front}
 
 -- 1 where the detail has not 576 bytes, then 2 where the image is not readable; else 0, and the layout opens its schema
 pub record Fronts (image : List ℕ) (room : ℕ) (r : Front) : Type 0 where

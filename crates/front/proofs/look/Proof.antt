@@ -1,11 +1,11 @@
--- `portable::look` meets its contract. Assumes nothing.
+-- `front::look` meets its contract. Assumes nothing.
 use borrow.Author.Needs.{needs}
 use mathlib.Core.Path.{refl}
 use native.Mathlib.Omega.{arith}
 use borrow.Author.Tests.{not-true, not-false}
-use Rattle.portable.proofs.Answered.{not-some, not-none}
-use Rattle.portable.proofs.look.Statement.{statement}
-use Rattle.portable.proofs.look.Tie as tie
+use Rattle.front.proofs.Verdicts.{not-some, not-none}
+use Rattle.front.proofs.look.Statement.{statement}
+use Rattle.front.proofs.look.Tie as tie
 
 pub look-spec : {M : Type 1} → statement M
 look-spec =

@@ -8,7 +8,7 @@ use Rattle.rules.specs.Words.{over-start}
 use Rattle.rules.specs.Answer as rules
 use Rattle.answers.specs.declared.answer.Answer.{Answer}
 use Rattle.answers.specs.Answers.{answer-of}
-use Rattle.exports.specs.Block.{five, words-of, SHORT, Exported}
+use Rattle.blocks.specs.Block.{five, words-of, SHORT, Exported}
 
 pub stored : (v w x y z : ℕ) (b : List ℕ) → 5 ≤ length b → set (set (set (set (set b 0 v) 1 w) 2 x) 3 y) 4 z ≡ over-start (v ∷ w ∷ x ∷ y ∷ z ∷ []) b
 unfolding over-start

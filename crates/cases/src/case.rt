@@ -1,5 +1,6 @@
 // A stored case: twelve words, then the bytes of the image, of the output and of the detail (vectors/README.md).
 use rules::ids::TypeId;
+use std::num::wrapping_add_usize;
 ghost use mathlib.Core.Path.{_≡_};
 ghost use Prim.Native.Nat.{_≤_, min};
 ghost use lib.ListN.{length};
@@ -13,6 +14,19 @@ pub const MOST_DETAIL: usize = 1024;
 pub struct Part {
     pub start: usize,
     pub size: usize,
+}
+
+impl Part {
+    fn end(self) -> usize {
+        wrapping_add_usize(self.start, self.size)
+    }
+}
+
+fn part_from(start: usize, size: u32) -> Part {
+    Part {
+        start,
+        size: size as usize,
+    }
 }
 
 // A case by its places in the file; ok where all lies inside it and no more is lent than a replay has.
@@ -54,47 +68,33 @@ fn no_case() -> Case
     }
 }
 
-// The case at a place.
+// The case at a place. Its sizes are words, so no sum here wraps; a word past the file's end counts as 0, and then the
+// case does not end inside the file.
 pub fn read(file: &[u8], at: usize) -> Case
     requires { ⌜ at ≤ length (now file) ⌝ }
     ensures { λ r. ⌜ r .next ≤ length (now (file .entry)) ⌝ }
 {
-    if file.len() - at < 48 {
+    let head = &file[at..];
+    let image = part_from(wrapping_add_usize(at, 48), words::word_at(head, 16));
+    let written = part_from(image.end(), words::word_at(head, 40));
+    let told = part_from(written.end(), words::word_at(head, 44));
+    let next = told.end();
+    if file.len() < next {
         return no_case();
     }
-    let output = words::word_at(file, at + 8) as usize;
-    let detail = words::word_at(file, at + 12) as usize;
-    let image = words::word_at(file, at + 16) as usize;
-    let written = words::word_at(file, at + 40) as usize;
-    let told = words::word_at(file, at + 44) as usize;
-    if MOST_OUTPUT < output {
-        return no_case();
-    }
-    if MOST_DETAIL < detail {
-        return no_case();
-    }
-    let left = file.len() - at - 48;
-    if left < image + written + told {
-        return no_case();
-    }
-    let start = at + 48;
+    let output = words::word_at(head, 8) as usize;
+    let detail = words::word_at(head, 12) as usize;
     Case {
-        ok: true,
-        call: words::word_at(file, at),
-        row: TypeId(words::word_at(file, at + 4)),
+        ok: (output <= MOST_OUTPUT) & (detail <= MOST_DETAIL),
+        call: words::word_at(head, 0),
+        row: TypeId(words::word_at(head, 4)),
         output,
         detail,
-        fields: at + 20,
-        image: Part { start, size: image },
-        written: Part {
-            start: start + image,
-            size: written,
-        },
-        told: Part {
-            start: start + image + written,
-            size: told,
-        },
-        next: start + image + written + told,
+        fields: wrapping_add_usize(at, 20),
+        image,
+        written,
+        told,
+        next,
     }
 }
 

@@ -1,8 +1,8 @@
 use Prim.Native.Nat.{_-_, _≤_}
 use lib.ListN.{length}
 use borrow.Author.Needs.{needs}
-use Rattle.replay.proofs.labels.end.Statement.{statement}
-use Rattle.replay.proofs.labels.end.Tie as tie
+use Rattle.cases.proofs.labels.end.Statement.{statement}
+use Rattle.cases.proofs.labels.end.Tie as tie
 
 abbrev Inv-loop : tie.InvT-loop
 Inv-loop names start i₀ i = (start ≤ i) × (i ≤ length names)

@@ -1,8 +1,8 @@
 use Prim.Native.Nat.{_-_, _≤_}
 use lib.ListN.{length}
 use borrow.Author.Needs.{needs}
-use Rattle.replay.proofs.asked.holds.Statement.{statement}
-use Rattle.replay.proofs.asked.holds.Tie as tie
+use Rattle.cases.proofs.buffers.holds.Statement.{statement}
+use Rattle.cases.proofs.buffers.holds.Tie as tie
 
 abbrev Inv-loop : tie.InvT-loop
 Inv-loop buffer stored fill i₀ i = i ≤ length stored

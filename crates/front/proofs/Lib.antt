@@ -1,0 +1,2 @@
+-- Laws of an image's verdict.
+pub mod Verdicts

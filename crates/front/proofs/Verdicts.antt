@@ -1,0 +1,22 @@
+-- An image's verdict as code has it, against the rules' reading. Assumes nothing.
+use Prim.Native.Nat.{ℕ}
+use mathlib.Core.Path.{_≡_, sym, ap, _∙_}
+use mathlib.Core.Bool.{true, false}
+use mathlib.Core.List.{List}
+use mathlib.Core.Option.{none, some}
+use Rattle.rules.specs.Syntax.{CompiledSchema}
+use Rattle.rules.specs.Options.{is-some}
+use Rattle.rules.specs.Image.{readable}
+use Rattle.reading.specs.Steps.{true-false}
+use Rattle.layout.specs.declared.Opened.{Opened}
+use Rattle.image.specs.Verdict.{Verdict}
+
+-- a verdict that is not ok, and one that is
+module _ {image : List ℕ} {r : Opened} (v : Verdict image r) where
+  pub not-some : r .ok ≡ false → (s : CompiledSchema) → readable image ≡ some s → ⊥
+  unfolding is-some
+  not-some n s e = true-false (sym (v .ok ∙ ap is-some e) ∙ n)
+
+  pub not-none : r .ok ≡ true → readable image ≡ none → ⊥
+  unfolding is-some
+  not-none y e = true-false (sym y ∙ v .ok ∙ ap is-some e)
