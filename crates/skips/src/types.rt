@@ -7,7 +7,6 @@ ghost use mathlib.Core.Option.{Option};
 ghost use Prim.Native.Nat.{ℕ, _+_, _<_};
 ghost use lib.ListN.{getD};
 ghost use Rattle.rules.specs.Syntax.{ResolvedType, TypeExpr};
-ghost use Rattle.rules.specs.Kinds.{type-kind};
 ghost use Rattle.reading.specs.Verdict.{section-words, Lies};
 ghost use Rattle.reading.specs.Gives.{Maybe-at};
 ghost use Rattle.pool_types.specs.TypeAt.{Type-at, Type-stands};

@@ -1,7 +1,7 @@
 -- `skips::exprs::skip_exprs` meets its contract. The loop's invariant: what is pending ends where the whole does. Assumes nothing.
 use borrow.Author.Needs.{needs}
-use Prim.Native.Nat.{ℕ, _+_, _-_, _≤_}
-use mathlib.Core.Path.{refl, ap, _∙_}
+use Prim.Native.Nat.{ℕ, _-_}
+use mathlib.Core.Path.{ap, _∙_}
 use native.Mathlib.Omega.{arith}
 use Rattle.rules.specs.Kinds.{expr-kind}
 use Rattle.reading.specs.Verdict.{section-words}
