@@ -9,12 +9,24 @@ use crate::second::Call;
 /// The hidden subcommand.
 pub const SUBCOMMAND: &str = "ask-the-rust";
 
-/// Asks the Rust about a case in a child process, which is this program again.
-pub fn ask(case: &Case) -> Result<ExitStatus, String> {
-    let call = match case.call {
+/// A call on a child's command line.
+pub fn letter(call: Call) -> &'static str {
+    match call {
         Call::ProjectImpl => "P",
         Call::ExpectedSignatures => "S",
-    };
+    }
+}
+
+pub fn call(letter: &str) -> Call {
+    match letter {
+        "P" => Call::ProjectImpl,
+        _ => Call::ExpectedSignatures,
+    }
+}
+
+/// Asks the Rust about a case in a child process, which is this program again.
+pub fn ask(case: &Case) -> Result<ExitStatus, String> {
+    let call = letter(case.call);
     let program = std::env::current_exe().map_err(|error| error.to_string())?;
     let mut child = Command::new(program)
         .args([SUBCOMMAND, call, &case.row.to_string()])
@@ -30,12 +42,15 @@ pub fn ask(case: &Case) -> Result<ExitStatus, String> {
 }
 
 /// The child: an image on standard input, one question to the Rust.
-pub fn answer(call: &str, row: &str) -> Result<(), String> {
+pub fn answer(letter: &str, row: &str) -> Result<(), String> {
     let mut image = vec![];
     std::io::stdin().read_to_end(&mut image).map_err(|error| error.to_string())?;
     let loaded = oracle::load(&image).map_err(|why| format!("{why:?}"))?;
     let row = row.parse().map_err(|_| "a row is a number")?;
-    let told = if call == "P" { loaded.project_impl(row) } else { loaded.expected_signatures(row) };
+    let told = match call(letter) {
+        Call::ProjectImpl => loaded.project_impl(row),
+        Call::ExpectedSignatures => loaded.expected_signatures(row),
+    };
     println!("{told:?}");
     Ok(())
 }

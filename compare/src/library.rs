@@ -1,4 +1,5 @@
-//! The proved library, asked in-process where the feature `library` links it. All unsafe code of the comparison is here.
+//! The proved library, asked in-process where the feature `library` links it. All unsafe code of the comparison is here,
+//! but for requests to callgrind.
 
 use crate::buffers::Side;
 use crate::second::Call;
@@ -26,9 +27,23 @@ pub fn number(call: Call, image: &[u8], row: u32, output: &mut [u8], detail: &mu
     unreachable!("a build without the library asks it nothing: {:?}", (call, image, row, output, detail));
 }
 
+/// Where the call's function, memcpy and memset are.
+pub fn addresses(call: Call) -> [usize; 3] {
+    #[cfg(feature = "library")]
+    return linked::addresses(call);
+    #[cfg(not(feature = "library"))]
+    unreachable!("a build without the library has no such function: {call:?}");
+}
+
 #[cfg(feature = "library")]
 mod linked {
     use crate::second::{Answer, Call};
+
+    // What the library calls; only their addresses are taken.
+    extern "C" {
+        fn memcpy();
+        fn memset();
+    }
 
     // A slice is passed as its address and its length; the library's crate `exports` has the statements.
     extern "C" {
@@ -95,13 +110,7 @@ mod linked {
 
     /// Asks with a short block, which must touch nothing, and then with one of five to eight words: the words behind the
     /// fifth must stay, and canaries stand around each.
-    pub fn answer(
-        which: Call,
-        image: &[u8],
-        row: u32,
-        output: &mut [u8],
-        detail: &mut [u8],
-    ) -> Result<Answer, String> {
+    pub fn answer(which: Call, image: &[u8], row: u32, output: &mut [u8], detail: &mut [u8]) -> Result<Answer, String> {
         let some = image.len() + output.len() + detail.len();
         let before = (output.to_vec(), detail.to_vec());
         let said = in_block(some % WORDS, |block| call(which, image, row, output, detail, block))?;
@@ -137,6 +146,14 @@ mod linked {
             true => Ok(Said { result, words: block[MARGIN..MARGIN + words].to_vec() }),
             false => Err("a canary beside the block is changed".into()),
         }
+    }
+
+    pub fn addresses(call: Call) -> [usize; 3] {
+        let function = match call {
+            Call::ProjectImpl => fruscalitu_project_impl as *const () as usize,
+            Call::ExpectedSignatures => fruscalitu_expected_signatures as *const () as usize,
+        };
+        [function, memcpy as *const () as usize, memset as *const () as usize]
     }
 
     pub fn number(which: Call, image: &[u8], row: u32, output: &mut [u8], detail: &mut [u8]) -> u32 {

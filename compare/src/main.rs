@@ -35,7 +35,15 @@ usage: compare/run SUBCOMMAND [OPTION ..]
                                    readings; a table, and times
   library [--seed S] [--cases N]   every edge, then images from seed S, N cases in all at every boundary of both
                                    buffers: the library beside the Rust and the second reading; prints a table
-  speed   [--seed S] [--rounds N]  the library's calls beside the Rust's, with and without building its schema
+  speed   [--seed S] [--rounds N] [--to FILE]
+                                   times of the library's calls beside the Rust's, with and without building its
+                                   schema; prints tables, and writes the figures
+  count   [--seed S] [--to FILE]   the same in instructions, by callgrind
+  profile [--seed S] [--functions 1]
+                                   where the library's instructions go, by crate and by function, in per cent
+  ratios  --from FILE --beside FILE
+                                   figures of speed beside those of count, as ratios
+  plot    --from FILE --to FILE    figures of speed or count as SVG
   cyclic  [--seed S] [--cases N]   N cases that never end, each in a child process of the Rust
   text    [--seed S] [--cases N] [--max-image BYTES] [--large N]
                                    N cases as lines of text, balanced over numbers; the last of them large
@@ -85,12 +93,18 @@ fn command(words: &[String]) -> Result<(), Failure> {
         "run" => run(&options(&["seed", "cases"])?),
         "readable" => readable(&options(&["seed", "cases"])?),
         "library" => beside(&options(&["seed", "cases"])?),
-        "speed" => speed(&options(&["seed", "rounds"])?),
+        "speed" => speed(&options(&["seed", "rounds", "to"])?),
+        "count" => count(&options(&["seed", "to"])?),
+        "profile" => profile(&options(&["seed", "functions"])?),
+        "ratios" => ratios(&options(&["from", "beside"])?),
+        "plot" => plot(&options(&["from", "to"])?),
         "cyclic" => cyclic(&options(&["seed", "cases"])?),
         "text" => lines(&options(&["seed", "cases", "max-image", "large", "from"])?),
         "vectors" => vectors(&options(&["seed", "to"])?),
         "check" => check(&options(&["from"])?),
         "show" => show(&options(&["from", "case"])?),
+        speed::COUNT_HERE if rest.len() == 1 => count_here(&rest[0]),
+        speed::ASK_HERE if rest.len() == 3 => Ok(speed::ask_here(child::call(&rest[0]), &rest[1], &rest[2])?),
         child::SUBCOMMAND if rest.len() == 2 => Ok(child::answer(&rest[0], &rest[1])?),
         _ => Err(Failure::Bad(format!("no such subcommand: {name}\n{USAGE}"))),
     }
@@ -133,8 +147,56 @@ fn beside(options: &Options) -> Result<(), Failure> {
 
 fn speed(options: &Options) -> Result<(), Failure> {
     let (seed, rounds) = (options.number("seed", 1)?, options.number("rounds", 31)?);
-    print!("{}", speed::times(seed, rounds, &calls()?));
+    println!("medians of {rounds} rounds");
+    figures("µs", speed::times(seed, rounds, &calls()?), options)
+}
+
+fn count(options: &Options) -> Result<(), Failure> {
+    figures("instructions", speed::counts(options.number("seed", 1)?, &calls()?)?, options)
+}
+
+fn count_here(seed: &str) -> Result<(), Failure> {
+    speed::count_here(seed.parse().map_err(|_| "a seed is a number".to_string())?, &calls()?);
     Ok(())
+}
+
+/// Prints figures as tables, and writes them where they are asked for.
+fn figures(unit: &str, figures: Vec<speed::Figure>, options: &Options) -> Result<(), Failure> {
+    print!("{}", speed::tables(unit, &figures));
+    match options.text("to") {
+        Some(path) => write(Path::new(path), speed::to_csv(unit, &figures).as_bytes()),
+        None => Ok(()),
+    }
+}
+
+fn profile(options: &Options) -> Result<(), Failure> {
+    calls()?;
+    let folder = std::env::var("FRUSCALITU_LIBRARY").map_err(|_| WITHOUT_LIBRARY.to_string())?;
+    let (seed, text) = (options.number("seed", 1)?, Path::new(&folder).join("module.text"));
+    print!("{}", speed::profile(seed, &text, options.number("functions", 0)? > 0)?);
+    Ok(())
+}
+
+fn ratios(options: &Options) -> Result<(), Failure> {
+    let ((_, times), (_, counts)) = (read_figures(options, "from")?, read_figures(options, "beside")?);
+    print!("{}", speed::ratios(&times, &counts)?);
+    Ok(())
+}
+
+fn plot(options: &Options) -> Result<(), Failure> {
+    let to = options.text("to").ok_or("plot wants --to FILE".to_string())?;
+    let (unit, figures) = read_figures(options, "from")?;
+    write(Path::new(to), speed::plot(&unit, "ProjectImpl", &figures)?.as_bytes())
+}
+
+fn read_figures(options: &Options, name: &str) -> Result<(String, Vec<speed::Figure>), String> {
+    let path = options.text(name).ok_or(format!("--{name} FILE is missing"))?;
+    let text = std::fs::read_to_string(path).map_err(|error| format!("cannot read {path}: {error}"))?;
+    speed::from_csv(&text).map_err(|why| format!("{path}: {why}"))
+}
+
+fn write(path: &Path, bytes: &[u8]) -> Result<(), Failure> {
+    std::fs::write(path, bytes).map_err(|error| Failure::Bad(format!("cannot write {}: {error}", path.display())))
 }
 
 fn readable(options: &Options) -> Result<(), Failure> {
@@ -189,8 +251,7 @@ fn vectors(options: &Options) -> Result<(), Failure> {
     let cases: Vec<_> = sample.into_iter().map(|(_, case, whole)| (case, whole)).collect();
     let bytes = cases::to_bytes(&cases);
     for (name, bytes) in [("cases.bin", bytes.as_slice()), ("labels.txt", labels.as_bytes())] {
-        let path = Path::new(folder).join(name);
-        std::fs::write(&path, bytes).map_err(|error| format!("cannot write {}: {error}", path.display()))?;
+        write(&Path::new(folder).join(name), bytes)?;
     }
     println!("{} cases, {} bytes", cases.len(), bytes.len());
     Ok(())

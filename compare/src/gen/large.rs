@@ -63,7 +63,7 @@ fn alias(rng: &mut Rng, model: &mut Model, target: impl FnOnce(u32, u32) -> Word
 }
 
 /// B0<T> = T and Bn<T> = Bm<Bm<T>> with m = n - 1: the visits of the target are 1, 5, 13 and so on; the type stays T.
-fn ladder(rng: &mut Rng, model: &mut Model, rungs: usize) -> Vec<(u32, usize)> {
+pub fn ladder(rng: &mut Rng, model: &mut Model, rungs: usize) -> Vec<(u32, usize)> {
     let mut ladder = vec![(alias(rng, model, |_, param| vec![48, param]), 1)];
     while ladder.len() < rungs {
         let (below, visits) = ladder[ladder.len() - 1];

@@ -3,6 +3,7 @@
 mod alike;
 mod body;
 mod bounds;
+mod costly;
 mod damage;
 mod edges;
 mod images;
@@ -19,6 +20,7 @@ use std::rc::Rc;
 use crate::case::Case;
 use crate::second::{self, Answer, Call, DETAIL_BYTES};
 pub use alike::{alike, End};
+pub use costly::{costly, KINDS as COSTLY, ROW as COSTLY_ROW};
 #[cfg(test)]
 pub use edges::whole_case;
 pub use edges::{edges, Edge};
