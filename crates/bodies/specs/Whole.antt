@@ -32,32 +32,33 @@ unfolding is-empty ensure
 none-behind [] z a e = refl
 none-behind (s ∷ ss) z a e = clash (cc)
 
+-- one typed statement, and those behind it
+one-more : (p : PortableStatement) (r ps : List PortableStatement) (n : ℕ) → _≡_ {A = Result (List PortableStatement)} (ok (p ∷ r)) (ok ps) → length r ≡ n → length ps ≡ suc n
+one-more p r ps n q e = let s : p ∷ r ≡ ps = cc in ap length (sym s) ∙ ap suc e
+
+no-more : (ps : List PortableStatement) → _≡_ {A = Result (List PortableStatement)} (ok []) (ok ps) → length ps ≡ 0
+no-more ps q = let s : [] ≡ ps = cc in ap length (sym s)
+
 -- an accepted list has as many typed statements as statements
 as-many : (o : Option ResolvedType) (c : FunctionContext) (ss : List Statement) (ps : List PortableStatement) → project-statements o c ss ≡ ok ps → length ps ≡ length ss
 unfolding project-statements
-as-many o c [] ps e = let b = bind-ok (ensure (not (is-some o)) (with-detail 22 (c .function) (2 ∷ []))) _ ps e in let q : _≡_ {A = Result (List PortableStatement)} (ok []) (ok ps) = b .2 in let p : [] ≡ ps = cc in ap length (sym p)
+as-many o c [] ps e = let b = bind-ok (ensure (not (is-some o)) (with-detail 22 (c .function) (2 ∷ []))) _ ps e in no-more ps (b .2)
 as-many o c (Statement.expr d ∷ ss) ps e = clash (cc)
 as-many o c (Statement.let-local x t d ∷ ss) ps e =
     let a = bind-ok (ensure (not (is-some (find-last x (c .locals)))) (with-name 18 (c .function) x)) _ ps e in
     let b = bind-ok (infer-expr c d t 3) _ ps (a .2) in
     let r = bind-ok (project-statements o (with-local c x (type-of (b .0))) ss) _ ps (b .2) in
-    let q : _≡_ {A = Result (List PortableStatement)} (ok (PortableStatement.let-local x (type-of (b .0)) (b .0) ∷ r .0)) (ok ps) = r .2 in
-    let p : PortableStatement.let-local x (type-of (b .0)) (b .0) ∷ r .0 ≡ ps = cc in
-    ap length (sym p) ∙ ap suc (as-many o (with-local c x (type-of (b .0))) ss (r .0) (r .1))
+    one-more (PortableStatement.let-local x (type-of (b .0)) (b .0)) (r .0) ps (length ss) (r .2) (as-many o (with-local c x (type-of (b .0))) ss (r .0) (r .1))
 as-many o c (Statement.return v ∷ ss) ps e =
     let a = bind-ok (project-return c o v) _ ps e in
     let b = bind-ok (ensure (is-empty ss) (in-function 23 (c .function))) _ ps (a .2) in
-    let q : _≡_ {A = Result (List PortableStatement)} (ok (PortableStatement.return (a .0) ∷ [])) (ok ps) = b .2 in
-    let p : PortableStatement.return (a .0) ∷ [] ≡ ps = cc in
-    ap length (sym p) ∙ ap suc (sym (none-behind ss (in-function 23 (c .function)) (b .0) (b .1)))
+    one-more (PortableStatement.return (a .0)) [] ps (length ss) (b .2) (sym (none-behind ss (in-function 23 (c .function)) (b .0) (b .1)))
 as-many o c (Statement.assign t d ∷ ss) ps e =
     let f = bind-ok (assigned-field (c .function) (place t)) _ ps e in
     let u = bind-ok (or-refuse (find-last (f .0) (c .fields)) (with-name 17 (c .function) (f .0))) _ ps (f .2) in
     let b = bind-ok (infer-expr c d (some (u .0)) 5) _ ps (u .2) in
     let r = bind-ok (project-statements o c ss) _ ps (b .2) in
-    let q : _≡_ {A = Result (List PortableStatement)} (ok (PortableStatement.assign-self-field (f .0) (b .0) ∷ r .0)) (ok ps) = r .2 in
-    let p : PortableStatement.assign-self-field (f .0) (b .0) ∷ r .0 ≡ ps = cc in
-    ap length (sym p) ∙ ap suc (as-many o c ss (r .0) (r .1))
+    one-more (PortableStatement.assign-self-field (f .0) (b .0)) (r .0) ps (length ss) (r .2) (as-many o c ss (r .0) (r .1))
 
 module _ (o : Option ResolvedType) (c : FunctionContext) where
   block-counted : (ss : List Statement) → body-words-of c o (FnBody.block ss) ≡ behind (length ss ∷ []) (block-words o c ss)

@@ -30,7 +30,7 @@ use Rattle.places.specs.Stood.{Stood}
 use Rattle.lets.specs.declared.Step.{Step}
 use Rattle.lets.specs.Made.{Made, made-let, let-words}
 use Rattle.lets.specs.Agree.{counted, Step-agrees, Steps}
-use Rattle.statements.specs.Values.{said-err, said-ok}
+use Rattle.outcomes.specs.Said.{said-err, said-ok}
 
 -- name and type, then the value
 pub written-let : {limit to : ℕ} {xs ys zs us : List ℕ} {a b d : ℕ} (x : ℕ) (v : PortableExpr)

@@ -1,3 +1,4 @@
 pub mod Made
 pub mod Agree
+pub mod Wanted
 pub mod Lets

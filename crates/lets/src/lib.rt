@@ -1,12 +1,11 @@
 // Lets: a value under the type written or its own, and a local more.
+use crate::written::written_type;
 use answers::answer::Outcome;
 use answers::refusal::Refusal;
 use held::types::HeldType;
 use layout::Layout;
 use places::Context;
 use rules::ids::NameId;
-use statements::parts::written_type;
-use statements::value::NESTING;
 use writing::put;
 ghost use mathlib.Core.Option.{Option};
 ghost use Prim.Native.Nat.{ℕ, _<_, _≤_};
@@ -21,6 +20,8 @@ ghost use Rattle.values.specs.Writes.{WritesOf};
 ghost use Rattle.lets.specs.Made.{let-words, made-let};
 ghost use Rattle.lets.specs.Agree.{Steps};
 
+mod written;
+
 // What comes of one statement: its refusal, or where the next word goes; and how many locals are in view behind it.
 pub struct Step {
     pub done: Outcome,
@@ -29,6 +30,9 @@ pub struct Step {
 
 // Its code.
 pub const LET: u32 = 1;
+
+// How deep an expression nests at most.
+const NESTING: u32 = 32;
 
 // The context of its value.
 const LOCAL_BINDING: u32 = 3;

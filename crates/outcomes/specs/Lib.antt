@@ -1,3 +1,4 @@
 pub mod Outcomes
 pub mod Passing
 pub mod Coming
+pub mod Said

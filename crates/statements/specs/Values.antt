@@ -9,7 +9,6 @@ use Rattle.rules.specs.Refusal.{Refusal, Result, ok, err, _>>=_}
 use Rattle.rules.specs.Infer.{PortableExpr, type-of, FunctionContext, infer-expr}
 use Rattle.rules.specs.Output.{value-words}
 use Rattle.held.specs.Runs.{Runs}
-use Rattle.held.specs.Holds.{Holds}
 use Rattle.answers.specs.declared.answer.Outcome.{Outcome}
 use Rattle.answers.specs.Refusals.{refusal-of}
 use Rattle.inferred.specs.declared.answers.Inferred.{Inferred}
@@ -20,27 +19,7 @@ use Rattle.writing.specs.Written.{Written}
 use Rattle.outcomes.specs.Outcomes.{Comes-to}
 use Rattle.statements.specs.Made.{value-of}
 use Rattle.outcomes.specs.Coming.{comes-err, comes-ok}
-
--- an accepted expression's value, and its type as it is held
-pub record Typed (rows : ℕ) (r : Inferred) (p : Result PortableExpr) : Type 0 where
-  pub value : PortableExpr
-  pub is : p ≡ ok value
-  pub held : Holds rows (r .ty) (type-of value)
-
-module _ (rows f : ℕ) (p : Result PortableExpr) (r : Inferred) where
-  pub said-err : Says rows f p r → (r .number ≡ 0 → ⊥) → p ≡ err (says.refusal-of f r)
-  said-err = go p
-    where
-      go : (p : Result PortableExpr) → Says rows f p r → (r .number ≡ 0 → ⊥) → p ≡ err (says.refusal-of f r)
-      go (ok v) h n = absurd (n (h .0))
-      go (err e) h n = ap err (sym (h .1))
-
-  pub said-ok : Says rows f p r → r .number ≡ 0 → Typed rows r p
-  said-ok = go p
-    where
-      go : (p : Result PortableExpr) → Says rows f p r → r .number ≡ 0 → Typed rows r p
-      go (ok v) h n = record { value = v; is = refl; held = h .1 }
-      go (err e) h n = absurd (h .0 n)
+use Rattle.outcomes.specs.Said.{said-err, said-ok}
 
 module _ (c : FunctionContext) (e : Expr) (o : Option ResolvedType) (context : ℕ) where
   pub value-err : {z : Refusal} → infer-expr c e o context ≡ err z → value-of c e o context ≡ err z

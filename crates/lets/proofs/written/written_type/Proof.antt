@@ -1,11 +1,11 @@
--- `statements::parts::written_type` meets its contract. Assumes nothing.
+-- `lets::written::written_type` meets its contract. Assumes nothing.
 use borrow.Author.Needs.{needs}
 use native.Mathlib.Omega.{arith}
 use mathlib.Core.Path.{sym, _∙_}
 use Rattle.reading.specs.Sections.{length-section}
-use Rattle.statements.specs.Wanted.{wanted-none, wanted-some}
-use Rattle.statements.proofs.parts.written_type.Statement.{statement}
-use Rattle.statements.proofs.parts.written_type.Tie as tie
+use Rattle.lets.specs.Wanted.{wanted-none, wanted-some}
+use Rattle.lets.proofs.written.written_type.Statement.{statement}
+use Rattle.lets.proofs.written.written_type.Tie as tie
 
 pub written-type-spec : {M : Type 1} → statement M
 written-type-spec =
