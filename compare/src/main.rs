@@ -186,7 +186,7 @@ fn ratios(options: &Options) -> Result<(), Failure> {
 fn plot(options: &Options) -> Result<(), Failure> {
     let to = options.text("to").ok_or("plot wants --to FILE".to_string())?;
     let (unit, figures) = read_figures(options, "from")?;
-    write(Path::new(to), speed::plot(&unit, "ProjectImpl", &figures)?.as_bytes())
+    write(Path::new(to), speed::plot(&unit, "ProjectImpl", "project_impl", &figures)?.as_bytes())
 }
 
 fn read_figures(options: &Options, name: &str) -> Result<(String, Vec<speed::Figure>), String> {

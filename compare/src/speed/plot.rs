@@ -47,7 +47,7 @@ impl Axes {
 }
 
 /// A panel for each kind of image that one call was asked about.
-pub fn plot(unit: &str, call: &str, figures: &[Figure]) -> Result<String, String> {
+pub fn plot(unit: &str, call: &str, title: &str, figures: &[Figure]) -> Result<String, String> {
     let figures: Vec<&Figure> = figures.iter().filter(|figure| figure.call == call).collect();
     if figures.is_empty() {
         return Err(format!("there are no figures of {call}"));
@@ -64,7 +64,7 @@ pub fn plot(unit: &str, call: &str, figures: &[Figure]) -> Result<String, String
         "<svg xmlns=\"http://www.w3.org/2000/svg\" width=\"{width}\" height=\"{height}\" \
          viewBox=\"0 0 {width} {height}\" font-family=\"sans-serif\" font-size=\"11\">\n\
          <rect width=\"{width}\" height=\"{height}\" fill=\"white\"/>\n\
-         <text x=\"{LEFT}\" y=\"20\" font-size=\"14\">{call}: {unit} a call against the image's size</text>\n"
+         <text x=\"{LEFT}\" y=\"20\" font-size=\"14\">{title}: {unit} a call against the image's size</text>\n"
     );
     for (place, (label, colour)) in SIDE.iter().enumerate() {
         let x = LEFT + 170.0 * place as f64;
@@ -151,13 +151,13 @@ mod tests {
     fn every_point_stands_in_its_panel() {
         let figure = |bytes, cost| Figure { call: "P".into(), kind: "typical".into(), bytes, cost };
         let figures = [figure(1_000, [30.0, 60.0, 4.0]), figure(65_536, [2e6, 3e6, 4e5])];
-        let svg = plot("instructions", "P", &figures).expect("a plot");
+        let svg = plot("instructions", "P", "p", &figures).expect("a plot");
         assert_eq!((svg.matches("<polyline").count(), svg.matches("<g ").count()), (SIDES, 1));
         let axes = Axes::of(&figures.iter().collect::<Vec<_>>());
         for figure in &figures {
             assert!((LEFT..WIDTH - RIGHT).contains(&axes.across(figure.bytes as f64 / 1_024.0)));
             assert!(figure.cost.iter().all(|cost| (ABOVE..=HEIGHT - BELOW).contains(&axes.down(*cost))));
         }
-        assert!(plot("instructions", "S", &figures).is_err());
+        assert!(plot("instructions", "S", "s", &figures).is_err());
     }
 }

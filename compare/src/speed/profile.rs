@@ -11,8 +11,9 @@ use super::trace::{self, Code, Trace};
 use super::{groups, Group, TYPICAL};
 use crate::second::Call;
 
-/// Only shares of so many per cent are told.
-const LEAST: f64 = 5.0;
+/// Only shares of so many per cent are told: of a crate alone, and with all that it calls.
+const ALONE: f64 = 5.0;
+const WITH: f64 = 10.0;
 
 /// Held types have 264 bytes; what holds one or two of them has less than so many.
 const HELD: std::ops::Range<u64> = 256..1_024;
@@ -54,14 +55,18 @@ pub fn profile(seed: u64, lines: &Path, functions: bool) -> Result<String, Strin
     }
     let mut text = String::new();
     for (title, profiles) in [("Typical images", typical), ("Worst images", costly)] {
-        let part = |of: fn(&Profile) -> &BTreeMap<String, u64>| table(&profiles, of);
-        let _ = writeln!(text, "{title}, by crate alone:\n\n{}", part(|profile| &profile.crates));
-        let _ = writeln!(text, "{title}, by crate with all that it calls:\n\n{}", part(|profile| &profile.crates_with));
+        let part = |least, of: fn(&Profile) -> &BTreeMap<String, u64>| table(&profiles, least, of);
+        let _ = writeln!(text, "{title}, by crate alone:\n\n{}", part(ALONE, |profile| &profile.crates));
+        let _ = writeln!(
+            text,
+            "{title}, by crate with all that it calls:\n\n{}",
+            part(WITH, |profile| &profile.crates_with)
+        );
         if functions {
-            let functions = part(|profile| &profile.functions_with);
+            let functions = part(ALONE, |profile| &profile.functions_with);
             let _ = writeln!(text, "{title}, by function with all that it calls:\n\n{functions}");
         }
-        let _ = writeln!(text, "{title}, copies:\n\n{}", part(|profile| &profile.copies));
+        let _ = writeln!(text, "{title}, copies:\n\n{}", part(0.0, |profile| &profile.copies));
     }
     Ok(text)
 }
@@ -169,13 +174,13 @@ impl Profile {
 }
 
 /// A column for each profile, a row for whatever has a share that is told; in per cent.
-fn table(profiles: &[Profile], of: fn(&Profile) -> &BTreeMap<String, u64>) -> String {
+fn table(profiles: &[Profile], least: f64, of: fn(&Profile) -> &BTreeMap<String, u64>) -> String {
     let share =
         |profile: &Profile, name: &str| 100.0 * *of(profile).get(name).unwrap_or(&0) as f64 / profile.total as f64;
     let most = |name: &str| profiles.iter().map(|profile| share(profile, name)).fold(0.0, f64::max);
     let names: BTreeSet<&String> = profiles.iter().flat_map(|profile| of(profile).keys()).collect();
     // What everything is part of is not told.
-    let told = |name: &String| most(name) >= LEAST && profiles.iter().any(|profile| share(profile, name) < 99.0);
+    let told = |name: &String| most(name) >= least && profiles.iter().any(|profile| share(profile, name) < 99.0);
     let mut names: Vec<&String> = names.into_iter().filter(|name| told(name)).collect();
     names.sort_by(|left, right| most(right).total_cmp(&most(left)));
     let labels: Vec<&str> = profiles.iter().map(|profile| profile.label.as_str()).collect();
