@@ -1,5 +1,5 @@
 // Expressions: each node says how many words it has and how many parts stand behind them.
-use crate::Node;
+use skip_types::Node;
 use reading::Section;
 use rules::kinds::ExprKind;
 ghost use mathlib.Core.Path.{_≡_};
@@ -10,7 +10,7 @@ ghost use Rattle.rules.specs.Syntax.{Expr};
 ghost use Rattle.reading.specs.Verdict.{section-words, Lies};
 ghost use Rattle.reading.specs.Gives.{Maybe-at};
 ghost use Rattle.pool_bodies.specs.ExprAt.{Expr-at, Expr-stands};
-ghost use Rattle.skips.specs.Pending.{Pending};
+ghost use Rattle.skip_types.specs.Pending.{Pending};
 ghost use Rattle.skips.specs.ExprNodes.{expr-node};
 
 // The node of a kind at a place; a call's parts are its arguments.
