@@ -1,7 +1,7 @@
 // Expressions: each node says how many words it has and how many parts stand behind them.
-use skip_types::Node;
 use reading::Section;
 use rules::kinds::ExprKind;
+use skip_types::Node;
 ghost use mathlib.Core.Path.{_≡_};
 ghost use mathlib.Core.Option.{Option};
 ghost use Prim.Native.Nat.{ℕ, _+_, _<_};
