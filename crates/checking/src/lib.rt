@@ -80,5 +80,5 @@ pub fn body_start(image: &[u8], l: Layout, at: usize) -> usize
 {
     let pool = l.pool;
     let place = crate::parts::return_start(image, l, at);
-    skips::types::skip_maybe_type(image, pool, place)
+    skip_types::skip_maybe_type(image, pool, place)
 }

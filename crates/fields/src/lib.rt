@@ -47,7 +47,7 @@ pub fn find_field(image: &[u8], l: Layout, at: usize, x: NameId) -> usize
             NameId(reading::section_word(image, pool, next)),
             x,
         );
-        next = skips::types::skip_type(image, pool, place);
+        next = skip_types::skip_type(image, pool, place);
         i += 1;
     }
     best

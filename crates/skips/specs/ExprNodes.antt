@@ -9,8 +9,8 @@ use Rattle.rules.specs.Kinds.{expr-kind}
 use Rattle.rules.specs.declared.kinds.ExprKind.{ExprKind}
 use Rattle.laws.specs.Runs.{count}
 use Rattle.pool_bodies.specs.ExprAt.{Expr-at, Exprs-at, value-shape, value-shape-at}
-use Rattle.skips.specs.declared.Node.{Node}
-use Rattle.skips.specs.Pending.{Pending, none-left, one-left, two-left, more-left, numbered, moved}
+use Rattle.skip_types.specs.declared.Node.{Node}
+use Rattle.skip_types.specs.Pending.{Pending, none-left, one-left, two-left, more-left, numbered, moved}
 
 -- v and w are the words two and three behind the code: a call's and a trait method call's number of arguments
 abbrev pub expr-node : ExprKind → ℕ → ℕ → Node

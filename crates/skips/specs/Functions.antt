@@ -11,7 +11,7 @@ use Rattle.pool_types.specs.TypeAt.{Type-stands}
 use Rattle.pool_types.specs.ParamAt.{Param-at}
 use Rattle.pool_type_exprs.specs.TypeExprAt.{Type-expr-at, Type-expr-stands}
 use Rattle.pool_definitions.specs.DefinitionAt.{Trait-return-at}
-use Rattle.skips.specs.Pending.{Pending, none-left, more-left, numbered}
+use Rattle.skip_types.specs.Pending.{Pending, none-left, more-left, numbered}
 
 module _ (names : ℕ) (ws : List ℕ) where
   -- parameters of resolved types or of type expressions are names with type expressions

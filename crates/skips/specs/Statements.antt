@@ -1,39 +1,16 @@
--- What stands at a place, by its first word: a statement by its code, a body or something that may be absent by 0 or 1.
+-- What stands at a place, by its first word: a statement by its code, a body by 0 or 1.
 use Prim.Native.Nat.{ℕ, _+_, _<_}
 use mathlib.Core.Path.{_≡_, sym, subst, _∙_}
 use mathlib.Core.List.{List, [], _∷_}
-use mathlib.Core.Option.{Option, none, some}
+use mathlib.Core.Option.{Option}
 use native.Mathlib.Omega.{arith}
 use lib.ListN.{length, getD}
 use Rattle.rules.specs.Syntax.{ResolvedType, Expr, Statement, FnBody}
 use Rattle.rules.specs.Kinds.{statement-kind}
 use Rattle.rules.specs.declared.kinds.StatementKind.{StatementKind}
-use Rattle.reading.specs.Gives.{Row, Maybe-at}
+use Rattle.reading.specs.Gives.{Row}
 use Rattle.pool_bodies.specs.StatementAt.{Statement-at, Statement-node, Statement-stands, Body-at}
-use Rattle.skips.specs.Pending.{Pending, none-left, more-left, numbered}
-
--- 0, or 1 and something: r is the place behind it
-module _ {A : Type 0} (ws : List ℕ) (Q : A → ℕ → ℕ → Type 0) (o : Option A) (at n : ℕ) (h : Maybe-at ws Q o at n) where
-  pub maybe-inside : at < length ws
-  maybe-inside = go o h
-    where
-      go : (o : Option A) → Maybe-at ws Q o at n → at < length ws
-      go none h = h .0 .inside
-      go (some a) h = h .0 .inside
-
-  pub maybe-none : (w : ℕ) → w ≡ getD ws at 0 → w ≡ 0 → at + 1 ≡ n
-  maybe-none w e z = go o h
-    where
-      go : (o : Option A) → Maybe-at ws Q o at n → at + 1 ≡ n
-      go none h = sym (h .1)
-      go (some a) h = absurd (omega (arith, h .0 .is))
-
-  pub maybe-some : (w : ℕ) → w ≡ getD ws at 0 → (w ≡ 0 → ⊥) → (r : ℕ) → ((a : A) → Q a (at + 1) n → r ≡ n) → r ≡ n
-  maybe-some w e z r f = go o h
-    where
-      go : (o : Option A) → Maybe-at ws Q o at n → r ≡ n
-      go none h = absurd (omega (arith, h .0 .is))
-      go (some a) h = f a (h .1)
+use Rattle.skip_types.specs.Pending.{Pending, none-left, more-left, numbered}
 
 -- a property of the statements of a kind
 abbrev Case : (Statement → Type 0) → StatementKind → Type 0

@@ -1,7 +1,7 @@
 // Expressions: each node says how many words it has and how many parts stand behind them.
-use crate::Node;
 use reading::Section;
 use rules::kinds::ExprKind;
+use skip_types::Node;
 ghost use mathlib.Core.Path.{_≡_};
 ghost use mathlib.Core.Option.{Option};
 ghost use Prim.Native.Nat.{ℕ, _+_, _<_};
@@ -10,7 +10,7 @@ ghost use Rattle.rules.specs.Syntax.{Expr};
 ghost use Rattle.reading.specs.Verdict.{section-words, Lies};
 ghost use Rattle.reading.specs.Gives.{Maybe-at};
 ghost use Rattle.pool_bodies.specs.ExprAt.{Expr-at, Expr-stands};
-ghost use Rattle.skips.specs.Pending.{Pending};
+ghost use Rattle.skip_types.specs.Pending.{Pending};
 ghost use Rattle.skips.specs.ExprNodes.{expr-node};
 
 // The node of a kind at a place; a call's parts are its arguments.

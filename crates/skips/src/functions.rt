@@ -10,7 +10,7 @@ ghost use Rattle.pool_types.specs.TypeAt.{Type-stands};
 ghost use Rattle.pool_types.specs.ParamAt.{Param-at};
 ghost use Rattle.pool_type_exprs.specs.TypeExprAt.{Type-expr-at, Type-expr-stands};
 ghost use Rattle.pool_definitions.specs.DefinitionAt.{Function-at, Trait-return-at, Trait-function-at};
-ghost use Rattle.skips.specs.Pending.{Pending};
+ghost use Rattle.skip_types.specs.Pending.{Pending};
 
 // The place behind so many names, each with a type expression.
 fn skip_named(image: &[u8], pool: Section, at: usize, count: u32) -> usize
@@ -23,7 +23,7 @@ fn skip_named(image: &[u8], pool: Section, at: usize, count: u32) -> usize
         if pool.len <= next {
             return next;
         }
-        next = crate::types::skip_type(image, pool, next + 1);
+        next = skip_types::skip_type(image, pool, next + 1);
         pending -= 1;
     }
     next
@@ -51,7 +51,7 @@ pub fn skip_function(image: &[u8], pool: Section, at: usize) -> usize
         return at;
     }
     let returns = skip_params(image, pool, at + 1);
-    let body = crate::types::skip_maybe_type(image, pool, returns);
+    let body = skip_types::skip_maybe_type(image, pool, returns);
     crate::statements::skip_body(image, pool, body)
 }
 
@@ -66,7 +66,7 @@ fn skip_trait_return(image: &[u8], pool: Section, at: usize) -> usize
     if reading::section_word(image, pool, at) == 0 {
         return at + 1;
     }
-    crate::types::skip_type(image, pool, at + 1)
+    skip_types::skip_type(image, pool, at + 1)
 }
 
 // The place behind a trait's function.

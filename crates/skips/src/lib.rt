@@ -2,10 +2,3 @@
 pub mod exprs;
 pub mod functions;
 pub mod statements;
-pub mod types;
-
-// A node's own words, and the parts that stand behind them.
-pub struct Node {
-    pub words: usize,
-    pub parts: usize,
-}

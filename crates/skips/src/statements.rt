@@ -6,7 +6,7 @@ ghost use Prim.Native.Nat.{ℕ};
 ghost use Rattle.rules.specs.Syntax.{Statement, FnBody};
 ghost use Rattle.reading.specs.Verdict.{section-words, Lies};
 ghost use Rattle.pool_bodies.specs.StatementAt.{Statement-at, Body-at};
-ghost use Rattle.skips.specs.Pending.{Pending};
+ghost use Rattle.skip_types.specs.Pending.{Pending};
 
 // The place behind a statement.
 pub fn skip_statement(image: &[u8], pool: Section, at: usize) -> usize
@@ -21,7 +21,7 @@ pub fn skip_statement(image: &[u8], pool: Section, at: usize) -> usize
     match k {
         StatementKind::Expr => crate::exprs::skip_expr(image, pool, n),
         StatementKind::Let => {
-            let m = crate::types::skip_maybe_type(image, pool, n + 1);
+            let m = skip_types::skip_maybe_type(image, pool, n + 1);
             crate::exprs::skip_expr(image, pool, m)
         }
         StatementKind::Return => crate::exprs::skip_maybe_expr(image, pool, n),

@@ -41,7 +41,7 @@ pub fn hold_type(image: &[u8], l: Layout, at: usize) -> Held
     ensures { λ r. ⌜ Types (l .names .rows) (pool-words (now (image .entry)) l) at r ⌝ }
 {
     let pool = l.pool;
-    let n = skips::types::skip_type(image, pool, at);
+    let n = skip_types::skip_type(image, pool, at);
     Held {
         ty: copy(image, pool, at, n),
         next: n,

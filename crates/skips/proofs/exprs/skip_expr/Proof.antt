@@ -1,6 +1,6 @@
 -- `skips::exprs::skip_expr` meets its contract. Assumes nothing.
 use borrow.Author.Needs.{needs}
-use Rattle.skips.specs.Pending.{one-left}
+use Rattle.skip_types.specs.Pending.{one-left}
 use Rattle.skips.proofs.exprs.skip_expr.Statement.{statement}
 use Rattle.skips.proofs.exprs.skip_expr.Tie as tie
 

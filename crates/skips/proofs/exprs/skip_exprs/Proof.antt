@@ -7,7 +7,7 @@ use Rattle.rules.specs.Kinds.{expr-kind}
 use Rattle.reading.specs.Verdict.{section-words}
 use Rattle.reading.specs.Sections.{length-section}
 use Rattle.pool_bodies.specs.ExprAt.{Expr-at}
-use Rattle.skips.specs.Pending.{Pending, ended, of-first, turned, pending-fits}
+use Rattle.skip_types.specs.Pending.{Pending, ended, of-first, turned, pending-fits}
 use Rattle.skips.specs.ExprNodes.{expr-parts, expr-inside}
 use Rattle.skips.proofs.exprs.skip_exprs.Statement.{statement}
 use Rattle.skips.proofs.exprs.skip_exprs.Tie as tie

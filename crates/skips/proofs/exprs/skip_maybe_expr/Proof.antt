@@ -2,7 +2,7 @@
 use borrow.Author.Needs.{needs}
 use native.Mathlib.Omega.{arith}
 use Rattle.reading.specs.Sections.{length-section}
-use Rattle.skips.specs.Statements.{maybe-inside, maybe-none, maybe-some}
+use Rattle.skip_types.specs.Maybe.{maybe-inside, maybe-none, maybe-some}
 use Rattle.skips.proofs.exprs.skip_maybe_expr.Statement.{statement}
 use Rattle.skips.proofs.exprs.skip_maybe_expr.Tie as tie
 

@@ -7,7 +7,7 @@ use Rattle.reading.specs.Verdict.{section-words}
 use Rattle.reading.specs.Sections.{length-section}
 use Rattle.pool_types.specs.ParamAt.{Param-at}
 use Rattle.pool_type_exprs.specs.TypeExprAt.{Type-expr-at}
-use Rattle.skips.specs.Pending.{Pending, none-left, ended, of-first, turned}
+use Rattle.skip_types.specs.Pending.{Pending, none-left, ended, of-first, turned}
 use Rattle.skips.proofs.functions.skip_named.Statement.{statement}
 use Rattle.skips.proofs.functions.skip_named.Tie as tie
 

@@ -2,7 +2,7 @@
 use borrow.Author.Needs.{needs}
 use native.Mathlib.Omega.{arith}
 use Rattle.reading.specs.Sections.{length-section}
-use Rattle.skips.specs.Pending.{two-left}
+use Rattle.skip_types.specs.Pending.{two-left}
 use Rattle.skips.specs.ExprNodes.{expr-from}
 use Rattle.skips.specs.Statements.{statement-node, by-code}
 use Rattle.skips.proofs.statements.skip_statement.Statement.{statement}

@@ -5,7 +5,7 @@ use mathlib.Core.Path.{sym}
 use native.Mathlib.Omega.{arith}
 use Rattle.reading.specs.Verdict.{section-words}
 use Rattle.pool_bodies.specs.StatementAt.{Statement-at}
-use Rattle.skips.specs.Pending.{Pending, none-left, ended, turned}
+use Rattle.skip_types.specs.Pending.{Pending, none-left, ended, turned}
 use Rattle.skips.proofs.statements.skip_statements.Statement.{statement}
 use Rattle.skips.proofs.statements.skip_statements.Tie as tie
 

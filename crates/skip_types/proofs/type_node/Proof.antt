@@ -1,4 +1,4 @@
--- `skips::types::type_node` meets its contract: an arm for each kind. Assumes nothing.
+-- `skip_types::type_node` meets its contract: an arm for each kind. Assumes nothing.
 use borrow.Author.Needs.{needs}
 use Prim.Native.Nat.{ℕ, _+_}
 use mathlib.Core.Path.{_≡_, sym, ap, _∙_}
@@ -8,9 +8,9 @@ use native.Mathlib.Omega.{arith}
 use Rattle.rules.specs.declared.kinds.TypeKind.{TypeKind}
 use Rattle.reading.specs.declared.Section.{Section}
 use Rattle.reading.specs.Verdict.{section-words}
-use Rattle.skips.specs.TypeNodes.{type-node}
-use Rattle.skips.proofs.types.type_node.Statement.{statement}
-use Rattle.skips.proofs.types.type_node.Tie as tie
+use Rattle.skip_types.specs.TypeNodes.{type-node}
+use Rattle.skip_types.proofs.type_node.Statement.{statement}
+use Rattle.skip_types.proofs.type_node.Tie as tie
 
 same : (image : List ℕ) (pool : Section) (at : ℕ) {k kind : TypeKind} → k ≡ kind → type-node kind (getD (section-words image pool) (at + 1) 0) ≡ type-node k (getD (section-words image pool) (at + 1) 0)
 same image pool at e = ap (λ (k : TypeKind). type-node k (getD (section-words image pool) (at + 1) 0)) (sym e)

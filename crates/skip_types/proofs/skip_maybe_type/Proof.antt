@@ -1,10 +1,10 @@
--- `skips::types::skip_maybe_type` meets its contract. Assumes nothing.
+-- `skip_types::skip_maybe_type` meets its contract. Assumes nothing.
 use borrow.Author.Needs.{needs}
 use native.Mathlib.Omega.{arith}
 use Rattle.reading.specs.Sections.{length-section}
-use Rattle.skips.specs.Statements.{maybe-inside, maybe-none, maybe-some}
-use Rattle.skips.proofs.types.skip_maybe_type.Statement.{statement}
-use Rattle.skips.proofs.types.skip_maybe_type.Tie as tie
+use Rattle.skip_types.specs.Maybe.{maybe-inside, maybe-none, maybe-some}
+use Rattle.skip_types.proofs.skip_maybe_type.Statement.{statement}
+use Rattle.skip_types.proofs.skip_maybe_type.Tie as tie
 
 pub skip-maybe-type-spec : {M : Type 1} → statement M
 skip-maybe-type-spec =

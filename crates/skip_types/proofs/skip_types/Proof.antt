@@ -1,4 +1,4 @@
--- `skips::types::skip_types` meets its contract. The loop's invariant: what is pending ends where the whole does. Assumes nothing.
+-- `skip_types::skip_types` meets its contract. The loop's invariant: what is pending ends where the whole does. Assumes nothing.
 use borrow.Author.Needs.{needs}
 use Prim.Native.Nat.{ℕ, _+_, _-_, _≤_}
 use mathlib.Core.Path.{refl, ap, _∙_}
@@ -7,10 +7,10 @@ use Rattle.rules.specs.Kinds.{type-kind}
 use Rattle.reading.specs.Verdict.{section-words}
 use Rattle.reading.specs.Sections.{length-section}
 use Rattle.pool_type_exprs.specs.TypeExprAt.{Type-expr-at}
-use Rattle.skips.specs.Pending.{Pending, ended, of-first, turned}
-use Rattle.skips.specs.TypeNodes.{type-parts, type-inside}
-use Rattle.skips.proofs.types.skip_types.Statement.{statement}
-use Rattle.skips.proofs.types.skip_types.Tie as tie
+use Rattle.skip_types.specs.Pending.{Pending, ended, of-first, turned}
+use Rattle.skip_types.specs.TypeNodes.{type-parts, type-inside}
+use Rattle.skip_types.proofs.skip_types.Statement.{statement}
+use Rattle.skip_types.proofs.skip_types.Tie as tie
 
 abbrev Inv-loop : tie.InvT-loop
 Inv-loop image pool at count pending₀ next₀ pending next = (pending ≤ count + next) × ((names n : ℕ) → Pending (Type-expr-at names (section-words image pool)) count at n → Pending (Type-expr-at names (section-words image pool)) pending next n)

@@ -9,8 +9,8 @@ use Rattle.rules.specs.Kinds.{type-kind}
 use Rattle.rules.specs.declared.kinds.TypeKind.{TypeKind}
 use Rattle.reading.specs.Gives.{Row, Below-at}
 use Rattle.pool_type_exprs.specs.TypeExprAt.{Type-expr-at, expr-shape, expr-shape-at}
-use Rattle.skips.specs.declared.Node.{Node}
-use Rattle.skips.specs.Pending.{Pending, none-left, one-left, two-left, moved}
+use Rattle.skip_types.specs.declared.Node.{Node}
+use Rattle.skip_types.specs.Pending.{Pending, none-left, one-left, two-left, moved}
 
 -- w is the word behind the code: of bits it is the number of names
 abbrev pub type-node : TypeKind → ℕ → Node

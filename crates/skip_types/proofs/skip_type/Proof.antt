@@ -1,9 +1,9 @@
--- `skips::types::skip_type` meets its contract. Assumes nothing.
+-- `skip_types::skip_type` meets its contract. Assumes nothing.
 use borrow.Author.Needs.{needs}
 use Rattle.rules.specs.Syntax.{TypeExpr}
-use Rattle.skips.specs.Pending.{one-left}
-use Rattle.skips.proofs.types.skip_type.Statement.{statement}
-use Rattle.skips.proofs.types.skip_type.Tie as tie
+use Rattle.skip_types.specs.Pending.{one-left}
+use Rattle.skip_types.proofs.skip_type.Statement.{statement}
+use Rattle.skip_types.proofs.skip_type.Tie as tie
 
 pub skip-type-spec : {M : Type 1} → statement M
 skip-type-spec =

@@ -1,5 +1,4 @@
-// Types and type expressions: each node says how many words it has and how many parts stand behind them.
-use crate::Node;
+// The place behind types and type expressions, by counting: on an image that is known to be readable no word is tested again.
 use reading::Section;
 use rules::kinds::TypeKind;
 ghost use mathlib.Core.Path.{_≡_};
@@ -11,8 +10,14 @@ ghost use Rattle.reading.specs.Verdict.{section-words, Lies};
 ghost use Rattle.reading.specs.Gives.{Maybe-at};
 ghost use Rattle.pool_types.specs.TypeAt.{Type-at, Type-stands};
 ghost use Rattle.pool_type_exprs.specs.TypeExprAt.{Type-expr-at};
-ghost use Rattle.skips.specs.Pending.{Pending};
-ghost use Rattle.skips.specs.TypeNodes.{type-node};
+ghost use Rattle.skip_types.specs.Pending.{Pending};
+ghost use Rattle.skip_types.specs.TypeNodes.{type-node};
+
+// A node's own words, and the parts that stand behind them.
+pub struct Node {
+    pub words: usize,
+    pub parts: usize,
+}
 
 // The node of a kind at a place.
 fn type_node(image: &[u8], pool: Section, at: usize, k: TypeKind) -> Node
