@@ -1,9 +1,10 @@
 // A stored case: twelve words, then the bytes of the image, of the output and of the detail (vectors/README.md).
 use rules::ids::TypeId;
-use std::num::wrapping_add_usize;
 ghost use mathlib.Core.Path.{_≡_};
-ghost use Prim.Native.Nat.{_≤_, min};
-ghost use lib.ListN.{length};
+ghost use Prim.Native.Nat.{_+_, _≤_, _<_, _^_, min};
+ghost use lib.ListN.{length, take, drop};
+ghost use Rattle.words.specs.Words.{word-at};
+ghost use Rattle.cases.specs.Cases.{Reads-case, no-case};
 
 // The most that a replay lends.
 pub const MOST_OUTPUT: usize = 65536;
@@ -14,19 +15,6 @@ pub const MOST_DETAIL: usize = 1024;
 pub struct Part {
     pub start: usize,
     pub size: usize,
-}
-
-impl Part {
-    fn end(self) -> usize {
-        wrapping_add_usize(self.start, self.size)
-    }
-}
-
-fn part_from(start: usize, size: u32) -> Part {
-    Part {
-        start,
-        size: size as usize,
-    }
 }
 
 // A case by its places in the file; ok where all lies inside it and no more is lent than a replay has.
@@ -51,7 +39,7 @@ pub fn least(a: usize, most: usize) -> usize
 }
 
 fn no_case() -> Case
-    ensures { λ r. ⌜ r .next ≡ 0 ⌝ }
+    ensures { λ r. ⌜ r ≡ no-case ⌝ }
 {
     let p = Part { start: 0, size: 0 };
     Case {
@@ -68,38 +56,67 @@ fn no_case() -> Case
     }
 }
 
+// One of the case's words.
+fn word(file: &[u8], at: usize, k: usize) -> u32
+    requires { ⌜ (at ≤ length (now file)) × (k ≤ 44) ⌝ }
+    ensures { λ r. ⌜ r ≡ word-at (now (file .entry)) (at + k) ⌝ }
+{
+    words::word_at(file, at + k)
+}
+
+// One that is a length.
+fn size(file: &[u8], at: usize, k: usize) -> usize
+    requires { ⌜ (at ≤ length (now file)) × (k ≤ 44) ⌝ }
+    ensures { λ r. ⌜ (r ≡ word-at (now (file .entry)) (at + k)) × (r < 2 ^ 32) ⌝ }
+{
+    word(file, at, k) as usize
+}
+
 // The case at a place. Its sizes are words, so no sum here wraps; a word past the file's end counts as 0, and then the
 // case does not end inside the file.
 pub fn read(file: &[u8], at: usize) -> Case
     requires { ⌜ at ≤ length (now file) ⌝ }
-    ensures { λ r. ⌜ r .next ≤ length (now (file .entry)) ⌝ }
+    ensures { λ r. ⌜ Reads-case (now (file .entry)) at r ⌝ }
 {
-    let head = &file[at..];
-    let image = part_from(wrapping_add_usize(at, 48), words::word_at(head, 16));
-    let written = part_from(image.end(), words::word_at(head, 40));
-    let told = part_from(written.end(), words::word_at(head, 44));
-    let next = told.end();
+    let image = size(file, at, 16);
+    let written = size(file, at, 40);
+    let told = size(file, at, 44);
+    let first = at + 48;
+    let second = first + image;
+    let third = second + written;
+    let next = third + told;
     if file.len() < next {
         return no_case();
     }
-    let output = words::word_at(head, 8) as usize;
-    let detail = words::word_at(head, 12) as usize;
+    let output = size(file, at, 8);
+    let detail = size(file, at, 12);
     Case {
         ok: (output <= MOST_OUTPUT) & (detail <= MOST_DETAIL),
-        call: words::word_at(head, 0),
-        row: TypeId(words::word_at(head, 4)),
+        call: words::word_at(file, at),
+        row: TypeId(word(file, at, 4)),
         output,
         detail,
-        fields: wrapping_add_usize(at, 20),
-        image,
-        written,
-        told,
+        fields: at + 20,
+        image: Part {
+            start: first,
+            size: image,
+        },
+        written: Part {
+            start: second,
+            size: written,
+        },
+        told: Part {
+            start: third,
+            size: told,
+        },
         next,
     }
 }
 
-// A part's bytes; none where it does not lie in the file.
-pub fn bytes(file: &[u8], p: Part) -> &[u8] {
+// A part's bytes; as many of them as there are, where it does not end in the file.
+pub fn bytes(file: &[u8], p: Part) -> &[u8]
+    ensures { λ r. ⌜ now r ≡ take (p .size) (drop (p .start) (now (file .entry))) ⌝ }
+{
     let start = p.start;
     let size = p.size;
     if file.len() < start {
@@ -107,7 +124,7 @@ pub fn bytes(file: &[u8], p: Part) -> &[u8] {
     }
     let rest = &file[start..];
     if rest.len() < size {
-        return &file[..0];
+        return rest;
     }
     &rest[..size]
 }

@@ -1,4 +1,5 @@
-// The labels, one a line in the cases' order.
+// The labels, one a line in the cases' order. They only name what is printed: said is that a line lies in the file, and
+// the replay's stored lines hold the rest.
 ghost use Prim.Native.Nat.{_≤_};
 ghost use lib.ListN.{length};
 
@@ -23,15 +24,4 @@ pub fn next(names: &[u8], end: usize) -> usize
     ensures { λ r. ⌜ r ≤ length (now (names .entry)) ⌝ }
 {
     if end < names.len() { end + 1 } else { end }
-}
-
-// Whether a label is that of an edge case that is told by name.
-pub fn is_named(label: &[u8]) -> bool {
-    if check::same(label, b"visits-1024") {
-        return true;
-    }
-    if check::same(label, b"visits-1025") {
-        return true;
-    }
-    check::same(label, b"alias-itself")
 }
