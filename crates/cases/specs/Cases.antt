@@ -8,13 +8,13 @@ use lib.Dec.{leb}
 use borrow.Author.Tests.{le-leb, lt-leb}
 use lib.ListN.{length}
 use Rattle.words.specs.Words.{word-at}
-use Rattle.cases.specs.declared.case.Part.{Part}
 use Rattle.cases.specs.declared.case.Case.{Case}
 
 -- behind the twelve words stand three parts, one behind the other
 abbrev pub case-end : List ℕ → ℕ → ℕ
 case-end file at = at + 48 + word-at file (at + 16) + word-at file (at + 40) + word-at file (at + 44)
 
+-- each field by its place
 abbrev pub case-words : List ℕ → ℕ → Case
 case-words file at = record {
   ok = leb (word-at file (at + 8)) 65536 && leb (word-at file (at + 12)) 1024;
@@ -48,10 +48,11 @@ abbrev whole-or-none : Bool → Case → Case
 whole-or-none true c = c
 whole-or-none false c = no-case
 
+-- the case at a place of a file
 unfoldable pub case-at : List ℕ → ℕ → Case
 case-at file at = whole-or-none (leb (case-end file at) (length file)) (case-words file at)
 
--- a case was read: what comes next lies in the file
+-- the case that was read; the next one's place lies in the file
 abbrev pub Reads-case : List ℕ → ℕ → Case → Type 0
 Reads-case file at r = (r .next ≤ length file) × (r ≡ case-at file at)
 

@@ -1,4 +1,5 @@
-// The labels, one a line in the cases' order. Said is that a label lies in the file; which it is shows in what a replay prints.
+// The labels, one a line in the cases' order. They only name what is printed: said is that a line lies in the file, and
+// the replay's stored lines hold the rest.
 ghost use Prim.Native.Nat.{_≤_};
 ghost use lib.ListN.{length};
 
