@@ -1,8 +1,6 @@
 -- Types, names and definitions whose words are small.
 use Prim.Native.Nat.{_<_}
-use mathlib.Core.Option.{Option, none, some}
 use Rattle.rules.specs.Syntax.{ResolvedType, run, Param, Name, TypeDef, CompiledSchema}
-use Rattle.rules.specs.Options.{or-else}
 use Rattle.rules.proofs.Good.{All, AllOption}
 use Rattle.laws.specs.DefinitionRuns.{typed-words, message-words, generic-alias-words, trait-words, implementation-words}
 use Rattle.promises.proofs.Small.{WORD, Small}
@@ -28,8 +26,3 @@ SmallDefinition (TypeDef.implementation i) = Small (implementation-words i)
 pub record SmallSchema (schema : CompiledSchema) : Type 0 where
   pub names : All SmallName (schema .names)
   pub definitions : All SmallDefinition (schema .definitions)
-
-pub small-or-else : (o p : Option ResolvedType) → AllOption SmallType o → AllOption SmallType p → AllOption SmallType (or-else o p)
-unfolding or-else
-small-or-else none p g h = h
-small-or-else (some t) p g h = g
