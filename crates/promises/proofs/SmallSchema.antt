@@ -2,7 +2,7 @@
 use Prim.Native.Nat.{_<_}
 use Rattle.rules.specs.Syntax.{ResolvedType, run, Param, Name, TypeDef, CompiledSchema}
 use Rattle.rules.proofs.Good.{All, AllOption}
-use Rattle.laws.specs.DefinitionRuns.{typed-words, message-words, generic-alias-words, trait-words, implementation-words}
+use Rattle.laws.specs.DefinitionRuns.{typed-words, definition-words}
 use Rattle.promises.proofs.Small.{WORD, Small}
 
 abbrev pub SmallType : ResolvedType → Type 0
@@ -17,11 +17,7 @@ pub record SmallName (n : Name) : Type 0 where
   pub alias : AllOption SmallType (n .alias)
 
 abbrev pub SmallDefinition : TypeDef → Type 0
-SmallDefinition TypeDef.other = Unit {0}
-SmallDefinition (TypeDef.message m) = Small (message-words m)
-SmallDefinition (TypeDef.generic-alias a) = Small (generic-alias-words a)
-SmallDefinition (TypeDef.trait t) = Small (trait-words t)
-SmallDefinition (TypeDef.implementation i) = Small (implementation-words i)
+SmallDefinition d = Small (definition-words d)
 
 pub record SmallSchema (schema : CompiledSchema) : Type 0 where
   pub names : All SmallName (schema .names)
