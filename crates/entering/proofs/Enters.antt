@@ -20,7 +20,7 @@ use Rattle.signature.proofs.Places.{expr-here, is-large, taken}
 use Rattle.entering.specs.declared.Entered.{Entered}
 use Rattle.entering.specs.Entered.{Entered-done, Entered-agrees, Entered-says}
 use Rattle.entering.proofs.Puts.{counted}
-use Rattle.entering.proofs.Resolves.{resolve-none, first-large, others-large, both-done}
+use Rattle.signature.proofs.Resolves.{resolve-none, first-large, others-large, both-done}
 
 module _ {rows behind : ℕ} {names words lens : List ℕ} {r : Entered} {o : Counted (List (Param ResolvedType))} where
   says-large : o ≡ too-large → r .ok ≡ false → Entered-says rows o behind names words lens r

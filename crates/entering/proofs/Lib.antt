@@ -1,6 +1,5 @@
 -- Laws of a signature held in the table.
 pub mod Puts
 pub mod PutParts
-pub mod Resolves
 pub mod Enters
 pub mod Returns

@@ -11,6 +11,7 @@ pub mod Statements
 pub mod DefinitionRuns
 pub mod Definitions
 pub mod GoodSchema
+pub mod Kept
 pub mod Substitution
 pub mod Schema
 pub mod MoreNames

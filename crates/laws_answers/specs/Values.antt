@@ -19,6 +19,7 @@ use Rattle.rules.specs.Infer.{binary-hint, infer-expr}
 use Rattle.rules.specs.Output.{value-words, kind-words}
 use Rattle.rules.proofs.Good.{All, AllOption}
 use Rattle.rules.proofs.Types.{Stored}
+use Rattle.laws.specs.Each.{or-else-all}
 use Rattle.laws.specs.Runs.{expr-words, nesting, GoodValue}
 use Rattle.rules.proofs.Typed.{typed-nesting, kind-nesting, TypedValue, TypedKind, TypedParam}
 use Rattle.laws_answers.specs.Ends as ends
@@ -54,11 +55,6 @@ module _ (names : ℕ) where
   plain-stored : (c : ℕ) → type-kind c ≡ type-kind 0 → Stored names (ResolvedType.plain c)
   unfolding type-kind run
   plain-stored c e = record { good = e; short = omega arith }
-
-  or-else-stored : (o p : Option ResolvedType) → AllOption (Stored names) o → AllOption (Stored names) p → AllOption (Stored names) (or-else o p)
-  unfolding or-else
-  or-else-stored none p h g = g
-  or-else-stored (some t) p h g = h
 
   literal-stored : (c : ℕ) → Stored names (literal-own c)
   unfolding literal-own type-kind
@@ -100,7 +96,7 @@ module _ (names : ℕ) where
     binary-hint-stored : (op : ℕ) (l r : Expr) (expected : Option ResolvedType) → AllOption (Stored names) expected → AllOption (Stored names) (binary-hint c op l r expected)
     unfolding binary-hint
     binary-hint-stored op l r expected h =
-        or-else-stored (expression-hint c l) _ (hint-stored l) (or-else-stored (expression-hint c r) _ (hint-stored r) (go (is-arithmetic op)))
+        or-else-all (Stored names) (expression-hint c l) _ (hint-stored l) (or-else-all (Stored names) (expression-hint c r) _ (hint-stored r) (go (is-arithmetic op)))
       where
         go : (b : Bool) → AllOption (Stored names) (cond b expected none)
         go true = h

@@ -1,10 +1,8 @@
 -- Types, names and definitions whose words are small.
 use Prim.Native.Nat.{_<_}
-use mathlib.Core.Option.{Option, none, some}
 use Rattle.rules.specs.Syntax.{ResolvedType, run, Param, Name, TypeDef, CompiledSchema}
-use Rattle.rules.specs.Options.{or-else}
 use Rattle.rules.proofs.Good.{All, AllOption}
-use Rattle.laws.specs.DefinitionRuns.{typed-words, message-words, generic-alias-words, trait-words, implementation-words}
+use Rattle.laws.specs.DefinitionRuns.{typed-words, definition-words}
 use Rattle.promises.proofs.Small.{WORD, Small}
 
 abbrev pub SmallType : ResolvedType → Type 0
@@ -19,17 +17,8 @@ pub record SmallName (n : Name) : Type 0 where
   pub alias : AllOption SmallType (n .alias)
 
 abbrev pub SmallDefinition : TypeDef → Type 0
-SmallDefinition TypeDef.other = Unit {0}
-SmallDefinition (TypeDef.message m) = Small (message-words m)
-SmallDefinition (TypeDef.generic-alias a) = Small (generic-alias-words a)
-SmallDefinition (TypeDef.trait t) = Small (trait-words t)
-SmallDefinition (TypeDef.implementation i) = Small (implementation-words i)
+SmallDefinition d = Small (definition-words d)
 
 pub record SmallSchema (schema : CompiledSchema) : Type 0 where
   pub names : All SmallName (schema .names)
   pub definitions : All SmallDefinition (schema .definitions)
-
-pub small-or-else : (o p : Option ResolvedType) → AllOption SmallType o → AllOption SmallType p → AllOption SmallType (or-else o p)
-unfolding or-else
-small-or-else none p g h = h
-small-or-else (some t) p g h = g

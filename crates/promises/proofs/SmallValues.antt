@@ -12,12 +12,13 @@ use Rattle.rules.specs.Refusal.{Result, ok}
 use Rattle.rules.specs.Infer.{PortableExpr, PortableExprKind, typed, type-of, FunctionContext, find-last, Place, of-local, of-self, of-field, nowhere, field-of, place, is-arithmetic, operand-allowed, unary-allowed, place-type, expression-hint, type-mismatch, ensure-same-type, ended, infer-literal, binary-hint, infer-expr}
 use Rattle.rules.specs.Output.{value-words, kind-words}
 use Rattle.rules.proofs.Good.{All, AllOption}
+use Rattle.laws.specs.Each.{or-else-all}
 use Rattle.laws.specs.Runs.{expr-words}
 use Rattle.laws_answers.specs.Ends as ends
 use Rattle.laws_answers.specs.Ends.{Ends, Any}
 use Rattle.laws_answers.specs.Erased.{any-ends}
 use Rattle.promises.proofs.Small.{Small, small-append, small-left, small-right}
-use Rattle.promises.proofs.SmallSchema.{SmallType, SmallParam, small-or-else}
+use Rattle.promises.proofs.SmallSchema.{SmallType, SmallParam}
 
 pub record SmallContext (c : FunctionContext) : Type 0 where
   pub locals : All SmallParam (c .locals)
@@ -52,7 +53,7 @@ small-own c = go (eqb c 0) (eqb c 1)
 pub small-last : (x : ℕ) (ps : List (Param ResolvedType)) → All SmallParam ps → AllOption SmallType (find-last x ps)
 unfolding find-last
 small-last x [] h = tt
-small-last x (p ∷ ps) h = small-or-else (find-last x ps) _ (small-last x ps (h .1)) (go (eqb x (p .name)))
+small-last x (p ∷ ps) h = or-else-all SmallType (find-last x ps) _ (small-last x ps (h .1)) (go (eqb x (p .name)))
   where
     go : (b : Bool) → AllOption SmallType (cond b (some (p .ty)) none)
     go true = h .0 .1
@@ -76,7 +77,7 @@ module _ (c : FunctionContext) (small : SmallContext c) where
   small-hint : (op : ℕ) (l r : Expr) (x : Option ResolvedType) → AllOption SmallType x → AllOption SmallType (binary-hint c op l r x)
   unfolding binary-hint expression-hint
   small-hint op l r x h =
-      small-or-else (place-type c (place l)) _ (small-place (place l)) (small-or-else (place-type c (place r)) _ (small-place (place r)) (go (is-arithmetic op)))
+      or-else-all SmallType (place-type c (place l)) _ (small-place (place l)) (or-else-all SmallType (place-type c (place r)) _ (small-place (place r)) (go (is-arithmetic op)))
     where
       go : (b : Bool) → AllOption SmallType (cond b x none)
       go true = h

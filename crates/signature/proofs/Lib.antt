@@ -2,6 +2,7 @@
 pub mod Places
 pub mod Says
 pub mod Sizes
+pub mod Resolves
 pub mod ParamLoop
 pub mod Forms
 pub mod Wholes

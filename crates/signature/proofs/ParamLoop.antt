@@ -20,6 +20,7 @@ use Rattle.signature.specs.Here.{Param-stands, Param-here, Params-here}
 use Rattle.signature.specs.Parts.{Part-says, under, resolve-param, poisoned-param}
 use Rattle.signature.proofs.Says.{says-done, says-large, part-large, made}
 use Rattle.signature.proofs.Sizes.{param-small}
+use Rattle.signature.proofs.Resolves.{resolve-none, first-large, first-done}
 
 -- one more at the end
 pub each-snoc : {A : Type 0} (f : A → List ℕ) (xs : List A) (x : A) → each f (xs ++ (x ∷ [])) ≡ each f xs ++ f x
@@ -50,15 +51,9 @@ prepend-none too-large = refl
 prepend-none (done w ts) = ap (λ (n : ℕ). done n ts) (zero-add w)
 
 module _ (schema : CompiledSchema) (ps : List (Param ResolvedType)) (q : Param TypeExpr) (qs : List (Param TypeExpr)) where
-  -- by its first, and then the others
-  first-o : (o : Counted ResolvedType) → substitute-type schema ps (q .ty) ≡ o
-      → resolve-params schema ps (q ∷ qs) ≡ after o λ v t. after (resolve-params schema ps qs) λ w ts. done (v + w) (record { name = q .name; ty = t } ∷ ts)
-  unfolding resolve-params
-  first-o o e = ap (λ (k : Counted ResolvedType). after k λ v t. after (resolve-params schema ps qs) λ w ts. done (v + w) (record { name = q .name; ty = t } ∷ ts)) e
-
   large-o : (o : Counted ResolvedType) → substitute-type schema ps (q .ty) ≡ o → under (q .name) o ≡ too-large → resolve-params schema ps (q ∷ qs) ≡ too-large
   unfolding after
-  large-o too-large e h = first-o too-large e
+  large-o too-large e h = first-large schema ps q qs e
   large-o (done v t) e h = absurd (let z : _≡_ {A = ℕ} 0 1 = cc in omega arith)
 
   params-large : resolve-param schema ps q ≡ too-large → resolve-params schema ps (q ∷ qs) ≡ too-large
@@ -70,7 +65,7 @@ module _ (schema : CompiledSchema) (ps : List (Param ResolvedType)) (q : Param T
   unfolding after
   more-o too-large e v p h = absurd (let z : _≡_ {A = ℕ} 0 1 = cc in omega arith)
   more-o (done w t) e v p h =
-      first-o (done w t) e
+      first-done schema ps q qs e
       ∙ ap₂ (λ (n : ℕ) (r : Param ResolvedType). after (resolve-params schema ps qs) λ w ts. done (n + w) (r ∷ ts)) (let m : w ≡ v = cc in m) (let m : record { name = q .name; ty = t } ≡ p = cc in m)
 
   params-more : {v : ℕ} {p : Param ResolvedType} → resolve-param schema ps q ≡ done v p → resolve-params schema ps (q ∷ qs) ≡ after (resolve-params schema ps qs) λ w ts. done (v + w) (p ∷ ts)
@@ -88,8 +83,8 @@ prepend-large u xs too-large e = refl
 prepend-large u xs (done v ts) e = absurd (let z : _≡_ {A = ℕ} 0 1 = cc in omega arith)
 
 prepend-end : (schema : CompiledSchema) (ps : List (Param ResolvedType)) (u : ℕ) (xs : List (Param ResolvedType)) → prepend u xs (resolve-params schema ps []) ≡ done u xs
-unfolding prepend after resolve-params
-prepend-end schema ps u xs = ap₂ (λ (n : ℕ) (l : List (Param ResolvedType)). done n l) (add-zero u) (append-nil xs)
+unfolding prepend after
+prepend-end schema ps u xs = ap (prepend u xs) (resolve-none schema ps) ∙ ap₂ (λ (n : ℕ) (l : List (Param ResolvedType)). done n l) (add-zero u) (append-nil xs)
 
 module _ {image : List ℕ} {l : Layout} {params : List ℕ} {at : ℕ} (h : Params-here image l params at) (from : ℕ) (old : List ℕ) where
   -- i of them are made: their visits, whether one is poisoned, and their words from `from` on; what is left decides
