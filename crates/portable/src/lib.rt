@@ -27,10 +27,10 @@ pub fn expected_signatures(
 pub fn project_impl(image: &[u8], number: TypeId, output: &mut [u8], detail: &mut [u8]) -> Answer
     ensures { λ r. ⌜ answer-of r (now (output .exit)) (now (detail .exit)) ≡ project-answer (now (image .entry)) (number .0) (now (output .entry)) (now (detail .entry)) ⌝ }
 {
-    let f = look(image, detail.len());
-    if f.number != 0 {
-        return answers::answer::alone(f.number);
+    let seen = look(image, detail.len());
+    if seen.number != 0 {
+        return answers::answer::alone(seen.number);
     }
-    let l = f.layout;
+    let l = seen.layout;
     projection::project_readable(image, l, number, output, detail)
 }
