@@ -1,10 +1,14 @@
 // The C forms, for Rust or C to link.
-mod project_call;
-mod signatures_call;
-
+use blocks::SHORT_BLOCK;
+use blocks::put_answer;
+use calls::Call;
+use rules::ids::TypeId;
 ghost use mathlib.Core.Path.{_≡_};
 ghost use Rattle.rules.specs.Options.{is-some};
 ghost use Rattle.rules.specs.Image.{readable};
+ghost use Rattle.rules.specs.Answer.{project-answer, signatures-answer};
+ghost use Rattle.blocks.specs.Block.{Exported};
+ghost use Rattle.calls.specs.Calls.{answer-for};
 
 // Whether the image is readable.
 #[no_mangle]
@@ -12,4 +16,50 @@ pub extern "C" fn fruscalitu_readable(image: &[u8]) -> bool
     ensures { λ r. ⌜ r ≡ is-some (readable (now (image .entry))) ⌝ }
 {
     image::read_image(image).ok
+}
+
+// Either call, with the answer's five words in a lent block.
+fn export(
+    call: Call,
+    image: &[u8],
+    number: u32,
+    output: &mut [u8],
+    detail: &mut [u8],
+    answer: &mut [u32],
+) -> u32
+    ensures { λ r. ⌜ Exported (answer-for call (now (image .entry)) number (now (output .entry)) (now (detail .entry))) r (now (output .entry)) (now (output .exit)) (now (detail .entry)) (now (detail .exit)) (now (answer .entry)) (now (answer .exit)) ⌝ }
+{
+    if answer.len() < 5 {
+        return SHORT_BLOCK;
+    }
+    let a = portable::answer(call, image, TypeId(number), output, detail);
+    put_answer(answer, a)
+}
+
+// portable::expected_signatures.
+#[no_mangle]
+pub extern "C" fn fruscalitu_expected_signatures(
+    image: &[u8],
+    number: u32,
+    output: &mut [u8],
+    detail: &mut [u8],
+    answer: &mut [u32],
+) -> u32
+    ensures { λ r. ⌜ Exported (signatures-answer (now (image .entry)) number (now (output .entry)) (now (detail .entry))) r (now (output .entry)) (now (output .exit)) (now (detail .entry)) (now (detail .exit)) (now (answer .entry)) (now (answer .exit)) ⌝ }
+{
+    export(Call::Signatures, image, number, output, detail, answer)
+}
+
+// portable::project_impl.
+#[no_mangle]
+pub extern "C" fn fruscalitu_project_impl(
+    image: &[u8],
+    number: u32,
+    output: &mut [u8],
+    detail: &mut [u8],
+    answer: &mut [u32],
+) -> u32
+    ensures { λ r. ⌜ Exported (project-answer (now (image .entry)) number (now (output .entry)) (now (detail .entry))) r (now (output .entry)) (now (output .exit)) (now (detail .entry)) (now (detail .exit)) (now (answer .entry)) (now (answer .exit)) ⌝ }
+{
+    export(Call::Projection, image, number, output, detail, answer)
 }

@@ -12,11 +12,13 @@ pub struct Front {
 pub fn look(image: &[u8], room: usize) -> Front
     ensures { λ r. ⌜ Fronts (now (image .entry)) room r ⌝ }
 {
-    let o = image::read_image(image);
-    let layout = o.layout;
     if room < 576 {
+        let none = sections::refused();
+        let layout = none.layout;
         return Front { number: 1, layout };
     }
+    let o = image::read_image(image);
+    let layout = o.layout;
     if !o.ok {
         return Front { number: 2, layout };
     }

@@ -11,20 +11,19 @@ use borrow.Author.Tests.{lt-ltb, le-ltb}
 use Rattle.rules.specs.Syntax.{CompiledSchema}
 use Rattle.rules.specs.Image.{readable}
 use Rattle.rules.specs.Refusal.{Result, refusal}
-use Rattle.rules.specs.Answer.{Answer, refused, finished, answered, project-call, signatures-call, project-answer, signatures-answer}
+use Rattle.rules.specs.Answer.{Answer, refused, finished, answered, project-answer, signatures-answer}
 use Rattle.layout.specs.Rows.{Cut}
 use Rattle.layout.specs.Open.{Open}
 use Rattle.front.specs.declared.Front.{Front}
 use Rattle.front.specs.Fronts.{Fronts}
+use Rattle.calls.specs.declared.Call.{Call}
+use Rattle.calls.specs.Calls.{call-of, answer-for}
 
--- the two calls
-pub signatures-is : (image : List ℕ) (number : ℕ) (output detail : List ℕ) → signatures-answer image number output detail ≡ answered (signatures-call number) image output detail
-unfolding signatures-answer
-signatures-is image number output detail = refl
-
-pub project-is : (image : List ℕ) (number : ℕ) (output detail : List ℕ) → project-answer image number output detail ≡ answered (project-call number) image output detail
-unfolding project-answer
-project-is image number output detail = refl
+-- a call's answer
+pub answer-is : (c : Call) (image : List ℕ) (number : ℕ) (output detail : List ℕ) → answer-for c image number output detail ≡ answered (call-of c number) image output detail
+unfolding signatures-answer project-answer answered call-of
+answer-is Call.Signatures image number output detail = refl
+answer-is Call.Projection image number output detail = refl
 
 module _ (call : CompiledSchema → Result (ℕ × List ℕ)) (image output detail : List ℕ) where
   abbrev read : Option CompiledSchema → Answer

@@ -1,5 +1,5 @@
 -- The whole projection by its steps. Assumes nothing.
-use Prim.Native.Nat.{ℕ, _<_, _^_}
+use Prim.Native.Nat.{ℕ}
 use mathlib.Core.Path.{_≡_, refl, sym, ap, ap₂, _∙_}
 use mathlib.Core.Bool.{Bool, true, false}
 use mathlib.Core.List.{List, [], _∷_, map}
@@ -8,28 +8,22 @@ use native.Mathlib.Omega.{arith}
 use lib.ListN.{length}
 use lib.Dec.{eqb}
 use borrow.Author.Tests.{eqb-true}
-use Rattle.rules.specs.Words.{NONE}
 use Rattle.rules.specs.Syntax.{ResolvedType, MessageDef, TraitFnDef, TraitDef, ImplDef, CompiledSchema, Param}
 use Rattle.rules.specs.Options.{then}
 use Rattle.rules.specs.Substitute.{get, number, view}
-use Rattle.rules.specs.Refusal.{Refusal, Result, ok, err, _>>=_, ensure, or-refuse, refusal, with-name, with-detail}
-use Rattle.rules.specs.Signatures.{PortableSignature, as-trait, find-trait, expected-list, expected-functions}
+use Rattle.rules.specs.Refusal.{Refusal, Result, ok, err, _>>=_, ensure, or-refuse, refusal, with-detail}
+use Rattle.rules.specs.Signatures.{PortableSignature, find-trait, expected-list, expected-functions}
 use Rattle.rules.specs.Bodies.{PortableFunction}
-use Rattle.rules.specs.Project.{as-message, as-implementation, find-implementation, target-message, no-repeat, no-stranger, project-list, project-impl}
+use Rattle.rules.specs.Project.{as-message, target-message, no-repeat, no-stranger, project-list, project-impl}
 use Rattle.rules.specs.Output.{functions-words, signatures-words}
-use Rattle.rules.specs.Answer.{project-call}
 use Rattle.answers.specs.declared.answer.Outcome.{Outcome}
 use Rattle.answers.specs.Answers.{Comes}
-use Rattle.answers.proofs.Calls.{Accepted, comes-err, comes-ok}
-use Rattle.answers.proofs.Passes.{length-fits}
-use Rattle.layout.specs.declared.Layout.{Layout}
-use Rattle.layout.specs.Opens.{Opens}
-use Rattle.laws_answers.specs.Answers.{project-bound}
+use Rattle.answers.proofs.Calls.{comes-err, comes-ok}
 use Rattle.outcomes.specs.Outcomes.{Comes-to}
 use Rattle.expected.specs.Asked.{in-words}
 use Rattle.outcomes.specs.Coming.{came-err, came-ok}
 use Rattle.projected.specs.Steps.{list-words}
-use Rattle.projection.specs.Steps.{tested-words, found-words}
+use Rattle.projection.specs.Steps.{tested-words, found-words, projected-words}
 use Rattle.projection.specs.Asked.{Few}
 use Rattle.projected.proofs.Resolved.{resolved, first, none-left}
 
@@ -118,62 +112,56 @@ module _ (impl : ImplDef) (message : MessageDef) (schema : CompiledSchema) (trai
         let w = c .2 .so (omega (arith, few v (c .0) is)) in
         comes-ok is z f (record { place = e ∙ w .0; bytes = w .1 })
 
-module _ (schema : CompiledSchema) (row : ℕ) where
+-- 5, by the target's row
+module _ (schema : CompiledSchema) (impl : ImplDef) (trait : TraitDef) where
+  abbrev after-message : Option MessageDef → Result (ℕ × List ℕ)
+  after-message m = or-refuse m (refusal 5) >>= λ message. found-words impl message schema trait
+
+  by-message : {m : Option MessageDef} → then (number (impl .target-type)) (λ n. then (get schema n) as-message) ≡ m → projected-words schema impl trait ≡ after-message m
+  unfolding projected-words target-message
+  by-message g = ap after-message g
+
+  pub no-message : then (number (impl .target-type)) (λ n. then (get schema n) as-message) ≡ none → projected-words schema impl trait ≡ err (refusal 5)
+  unfolding or-refuse _>>=_
+  no-message g = by-message g
+
+  pub with-message : {message : MessageDef} → then (number (impl .target-type)) (λ n. then (get schema n) as-message) ≡ some message → projected-words schema impl trait ≡ found-words impl message schema trait
+  unfolding or-refuse _>>=_
+  with-message g = by-message g
+
+-- the rules' projection is the trait's, then these words
+module _ (schema : CompiledSchema) (impl : ImplDef) where
   abbrev functions-of : Result (ℕ × List PortableFunction) → Result (ℕ × List ℕ)
   functions-of r = r >>= λ p. ok (p .0, functions-words (p .1))
 
-  abbrev after-impl : Result ImplDef → Result (ℕ × List ℕ)
-  after-impl r = r >>= λ i. functions-of (project-impl schema i)
+  abbrev after-tests : Result (Unit {0}) → Result (Unit {0}) → ℕ → Result (List PortableFunction) → Result (ℕ × List PortableFunction)
+  after-tests a b v fs = a >>= λ _. b >>= λ _. fs >>= λ gs. ok (v, gs)
 
-  -- 3
-  pub no-impl : then (get schema row) as-implementation ≡ none → project-call row schema ≡ err (refusal 3)
-  unfolding project-call find-implementation or-refuse _>>=_
-  no-impl e = ap (λ (o : Option ImplDef). after-impl (or-refuse o (refusal 3))) e
+  abbrev rest : MessageDef → Result (ℕ × List PortableSignature) → Result (ℕ × List PortableFunction)
+  rest message r = r >>= λ p. after-tests (no-repeat [] (impl .functions)) (no-stranger (map (λ s. s .name) (p .1)) (impl .functions)) (p .0) (project-list impl message (p .1))
 
-  module _ {impl : ImplDef} (e : then (get schema row) as-implementation ≡ some impl) where
-    abbrev after-tests : Result (Unit {0}) → Result (Unit {0}) → ℕ → Result (List PortableFunction) → Result (ℕ × List PortableFunction)
-    after-tests a b v fs = a >>= λ _. b >>= λ _. fs >>= λ gs. ok (v, gs)
+  tests-o : (a b : Result (Unit {0})) (v : ℕ) (fs : Result (List PortableFunction)) → functions-of (after-tests a b v fs) ≡ ((a >>= λ _. b >>= λ _. fs >>= λ gs. ok (functions-words gs)) >>= λ ws. ok (v, ws))
+  unfolding _>>=_
+  tests-o (err x) b v fs = refl
+  tests-o (ok u) (err x) v fs = refl
+  tests-o (ok u) (ok w) v (err x) = refl
+  tests-o (ok u) (ok w) v (ok gs) = refl
 
-    abbrev rest : TraitDef → MessageDef → Result (ℕ × List PortableFunction)
-    rest trait message = expected-functions schema trait impl >>= λ p. after-tests (no-repeat [] (impl .functions)) (no-stranger (map (λ s. s .name) (p .1)) (impl .functions)) (p .0) (project-list impl message (p .1))
+  rest-o : (message : MessageDef) (r : Result (ℕ × List PortableSignature)) → functions-of (rest message r) ≡ (r >>= λ p. tested-words impl message (p .1) >>= λ ws. ok (p .0, ws))
+  unfolding _>>=_ tested-words list-words
+  rest-o message (err x) = refl
+  rest-o message (ok p) = tests-o (no-repeat [] (impl .functions)) (no-stranger (map (λ s. s .name) (p .1)) (impl .functions)) (p .0) (project-list impl message (p .1))
 
-    abbrev after-trait : Result TraitDef → Result MessageDef → Result (ℕ × List ℕ)
-    after-trait t m = functions-of (t >>= λ trait. m >>= λ message. rest trait message)
+  message-o : (trait : TraitDef) (m : Result MessageDef) → functions-of (m >>= λ message. rest message (expected-functions schema trait impl)) ≡ (m >>= λ message. found-words impl message schema trait)
+  unfolding _>>=_ found-words
+  message-o trait (err x) = refl
+  message-o trait (ok message) = rest-o message (expected-functions schema trait impl)
 
-    by-rows : {t : Option TraitDef} {m : Option MessageDef} → then (get schema (impl .trait-id)) as-trait ≡ t → then (number (impl .target-type)) (λ n. then (get schema n) as-message) ≡ m
-        → project-call row schema ≡ after-trait (or-refuse t (with-name 4 NONE (impl .trait-name))) (or-refuse m (refusal 5))
-    unfolding project-call find-implementation or-refuse _>>=_ project-impl find-trait target-message
-    by-rows {t} {m} f g = ap (λ (o : Option ImplDef). after-impl (or-refuse o (refusal 3))) e
-        ∙ ap₂ (λ (t : Option TraitDef) (m : Option MessageDef). after-trait (or-refuse t (with-name 4 NONE (impl .trait-name))) (or-refuse m (refusal 5))) f g
+  trait-o : (t : Result TraitDef) → functions-of (t >>= λ trait. target-message schema impl >>= λ message. rest message (expected-functions schema trait impl)) ≡ (t >>= λ trait. projected-words schema impl trait)
+  unfolding _>>=_ projected-words
+  trait-o (err x) = refl
+  trait-o (ok trait) = message-o trait (target-message schema impl)
 
-    -- 4, 5
-    pub no-trait : then (get schema (impl .trait-id)) as-trait ≡ none → project-call row schema ≡ err (with-name 4 NONE (impl .trait-name))
-    unfolding or-refuse _>>=_
-    no-trait f = by-rows f refl
-
-    module _ {trait : TraitDef} (f : then (get schema (impl .trait-id)) as-trait ≡ some trait) where
-      pub no-message : then (number (impl .target-type)) (λ n. then (get schema n) as-message) ≡ none → project-call row schema ≡ err (refusal 5)
-      unfolding or-refuse _>>=_
-      no-message g = by-rows f g
-
-      tests-o : (a b : Result (Unit {0})) (v : ℕ) (fs : Result (List PortableFunction)) → functions-of (after-tests a b v fs) ≡ ((a >>= λ _. b >>= λ _. fs >>= λ gs. ok (functions-words gs)) >>= λ ws. ok (v, ws))
-      unfolding _>>=_
-      tests-o (err x) b v fs = refl
-      tests-o (ok u) (err x) v fs = refl
-      tests-o (ok u) (ok w) v (err x) = refl
-      tests-o (ok u) (ok w) v (ok gs) = refl
-
-      rest-o : (message : MessageDef) (r : Result (ℕ × List PortableSignature))
-          → functions-of (r >>= λ p. after-tests (no-repeat [] (impl .functions)) (no-stranger (map (λ s. s .name) (p .1)) (impl .functions)) (p .0) (project-list impl message (p .1)))
-          ≡ (r >>= λ p. tested-words impl message (p .1) >>= λ ws. ok (p .0, ws))
-      unfolding _>>=_ tested-words list-words
-      rest-o message (err x) = refl
-      rest-o message (ok p) = tests-o (no-repeat [] (impl .functions)) (no-stranger (map (λ s. s .name) (p .1)) (impl .functions)) (p .0) (project-list impl message (p .1))
-
-      pub with-message : {message : MessageDef} → then (number (impl .target-type)) (λ n. then (get schema n) as-message) ≡ some message → project-call row schema ≡ found-words impl message schema trait
-      unfolding or-refuse _>>=_ found-words
-      with-message {message} g = by-rows f g ∙ rest-o message (expected-functions schema trait impl)
-
--- an accepted length fits a word
-pub project-fit : {image : List ℕ} {l : Layout} (o : Opens image l) (row : ℕ) {old new : List ℕ} {r : Outcome} → Accepted (project-call row (o .schema)) old new r → r .length < 2 ^ 32
-project-fit {image} o row a = length-fits a (omega (arith, project-bound image (o .schema) (o .opened .read) row (a .visits) (a .words) (a .is) .1))
+  pub behind-trait : (project-impl schema impl >>= λ p. ok (p .0, functions-words (p .1))) ≡ (find-trait schema impl >>= λ trait. projected-words schema impl trait)
+  unfolding project-impl
+  behind-trait = trait-o (find-trait schema impl)

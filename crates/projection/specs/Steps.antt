@@ -1,10 +1,10 @@
--- The rules' projection behind a trait and a message, as words.
+-- The rules' projection behind a trait, as words.
 use Prim.Native.Nat.{ℕ}
 use mathlib.Core.List.{List, [], map}
 use Rattle.rules.specs.Syntax.{MessageDef, TraitDef, ImplDef, CompiledSchema}
 use Rattle.rules.specs.Refusal.{Result, ok, _>>=_}
 use Rattle.rules.specs.Signatures.{PortableSignature, expected-functions}
-use Rattle.rules.specs.Project.{no-repeat, no-stranger}
+use Rattle.rules.specs.Project.{target-message, no-repeat, no-stranger}
 use Rattle.projected.specs.Steps.{list-words}
 
 module _ (impl : ImplDef) (message : MessageDef) where
@@ -21,3 +21,9 @@ module _ (impl : ImplDef) (message : MessageDef) where
     (visits, expected) ← expected-functions schema trait impl
     words ← tested-words expected
     ok (visits, words)
+
+-- 5 before that
+unfoldable pub projected-words : CompiledSchema → ImplDef → TraitDef → Result (ℕ × List ℕ)
+projected-words schema impl trait = do
+  message ← target-message schema impl
+  found-words impl message schema trait

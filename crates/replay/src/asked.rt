@@ -1,8 +1,8 @@
 // A case asked again, and its answer compared.
 use answers::answer::Answer;
+use calls::Call;
 use cases::buffers::holds;
 use cases::case::Case;
-use rules::ids::TypeId;
 use std::num::wrapping_add_usize;
 
 // The calls as the file names them.
@@ -41,18 +41,18 @@ fn same_fields(file: &[u8], at: usize, a: Answer) -> bool {
         & (words::word_at(file, wrapping_add_usize(at, 16)) == a.visits)
 }
 
-// Either call.
-fn answer(call: u32, image: &[u8], number: TypeId, output: &mut [u8], detail: &mut [u8]) -> Answer {
+// Which call the file's number is.
+fn which(call: u32) -> Call {
     if call == PROJECT_IMPL {
-        return portable::project_impl(image, number, output, detail);
+        return Call::Projection;
     }
-    portable::expected_signatures(image, number, output, detail)
+    Call::Signatures
 }
 
 // Asks with the two lent buffers.
 fn ask(file: &[u8], c: Case, output: &mut [u8], detail: &mut [u8]) -> Compared {
     let image = cases::case::bytes(file, c.image);
-    let a = answer(c.call, image, c.row, output, detail);
+    let a = portable::answer(which(c.call), image, c.row, output, detail);
     Compared {
         fields: same_fields(file, c.fields, a),
         output: holds(output, cases::case::bytes(file, c.written), OUTPUT_FILL),

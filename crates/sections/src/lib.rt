@@ -104,7 +104,7 @@ fn layout_of(t: Trailer, size: usize) -> Layout
 }
 
 // No layout.
-fn refused() -> Opened
+pub fn refused() -> Opened
     ensures { λ r. ⌜ r ≡ no-layout ⌝ }
 {
     let none = Section { start: 0, len: 0 };

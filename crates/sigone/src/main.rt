@@ -1,33 +1,6 @@
-// The signatures that the trait of an image's lowest implementation asks for: the answer's five fields on a line, then
-// on acceptance each word of the output.
-use answers::answer::Answer;
-use libc::STDIN_FILENO;
-ghost use mathlib.Core.Path.{_≡_};
-ghost use Rattle.rules.specs.Answer.{signatures-answer};
-ghost use Rattle.rules.specs.Projone.{lowest-implementation};
-ghost use Rattle.answers.specs.Answers.{answer-of};
+// The signatures that the trait of an image's lowest implementation asks for.
+use calls::Call;
 
-// The answer for the lowest implementation.
-fn answer(image: &[u8], output: &mut [u8], detail: &mut [u8]) -> Answer
-    ensures { λ r. ⌜ answer-of r (now (output .exit)) (now (detail .exit)) ≡ signatures-answer (now (image .entry)) (lowest-implementation (now (image .entry))) (now (output .entry)) (now (detail .entry)) ⌝ }
-{
-    let number = lowest::lowest_implementation(image);
-    portable::expected_signatures(image, number, output, detail)
-}
-
-// One byte more than an image can have is lent, so that no longer input is cut to an image.
 fn main() {
-    let mut image = [0u8; 65537];
-    let input = asking::input::read_to_end(STDIN_FILENO, &mut image);
-    if !input.ok {
-        os::fail(b"standard input");
-        return;
-    }
-    let n = input.len;
-    let mut output = [0u8; 65536];
-    let mut detail = [0u8; 576];
-    let a = answer(&image[..n], &mut output, &mut detail);
-    if !asking::lines::print_answer(a, &output) {
-        os::fail(b"standard output");
-    }
+    one::run(Call::Signatures);
 }

@@ -1,0 +1,2 @@
+-- Laws of what was found.
+pub mod Found

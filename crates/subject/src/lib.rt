@@ -1,0 +1,57 @@
+// What a call is asked of: an implementation and its trait, where they stand in the pool.
+use layout::Layout;
+use rules::ids::NameId;
+use rules::ids::TypeId;
+ghost use Rattle.rules.specs.Syntax.{CompiledSchema};
+ghost use Rattle.layout.specs.Rows.{Inside};
+ghost use Rattle.layout.specs.Open.{Open};
+ghost use Rattle.subject.specs.Subjects.{subject, Finds};
+
+// 3 or 4 and the name beside it; or 0, and the places of the trait, of the target type and of the type arguments.
+pub struct Subject {
+    pub number: u32,
+    pub name: NameId,
+    pub start: usize,
+    pub target: usize,
+    pub types: usize,
+}
+
+// 3 where the number is no implementation's row, then 4 where its trait is no trait.
+pub fn find_subject(image: &[u8], l: Layout, number: TypeId) -> Subject
+    requires { ⌜ Inside (now image) l ⌝ }
+    ensures { λ r. ⌜ ((s : CompiledSchema) → Open (now (image .entry)) l s → Finds (now (image .entry)) l (subject (number .0) s) r) ⌝ }
+{
+    let i = traits::find::find_implementation(image, l, number);
+    if !i.ok {
+        return Subject {
+            number: 3,
+            name: NameId::NONE,
+            start: 0,
+            target: 0,
+            types: 0,
+        };
+    }
+    let pool = l.pool;
+    let at = i.start;
+    let id = reading::section_word(image, pool, at);
+    let t = traits::find::find_trait(image, l, TypeId(id));
+    let behind = fields::after(pool, at);
+    if !t.ok {
+        let name = NameId(reading::section_word(image, pool, behind));
+        return Subject {
+            number: 4,
+            name,
+            start: 0,
+            target: 0,
+            types: 0,
+        };
+    }
+    let target = fields::after(pool, behind);
+    Subject {
+        number: 0,
+        name: NameId::NONE,
+        start: t.start,
+        target,
+        types: skip_types::skip_type(image, pool, target),
+    }
+}
