@@ -1,10 +1,9 @@
 -- A reader that reads exactly some words gives what stands there and is good.
-use Prim.Native.Nat.{ℕ, _+_, _-_, _≤_}
+use Prim.Native.Nat.{ℕ, _+_}
 use mathlib.Core.Path.{_≡_, refl, sym, ap, _∙_}
 use mathlib.Core.List.{List, _++_}
 use mathlib.Core.Option.{Option, none, some}
-use native.Mathlib.Omega.{arith}
-use lib.ListN.{length, drop, length-append, length-drop}
+use lib.ListN.{length, drop}
 use lib.Seq.{drop-drop, drop-at}
 use Rattle.rules.specs.Reader.{Rest, rest-at, Reader}
 use Rattle.rules.proofs.Exact as exact
@@ -15,12 +14,6 @@ use Rattle.reading.specs.Gives.{Yields, Gives, so-then, both}
 pub record Stands (ws run : List ℕ) (at n : ℕ) : Type 0 where
   pub left : drop at ws ≡ run ++ drop n ws
   pub next : n ≡ at + length run
-
--- they end inside
-pub stands-inside : (ws run : List ℕ) (at n : ℕ) → Stands ws run at n → at ≤ length ws → n ≤ length ws
-stands-inside ws run at n s i =
-    let l : length ws - at ≡ length run + (length ws - n) = sym (length-drop at ws) ∙ ap length (s .left) ∙ length-append run (drop n ws) ∙ ap (λ (k : ℕ). length run + k) (length-drop n ws) in
-    omega (arith, s .next)
 
 given-y : {A : Type 0} (ws : List ℕ) (P : A → ℕ → Type 0) (o : Option (A × Rest)) → ((a : A) (q : Rest) → o ≡ some (a, q) → (q ≡ rest-at ws (q .at)) × P a (q .at)) → Yields ws P o
 given-y ws P none h = tt
