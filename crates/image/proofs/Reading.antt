@@ -6,7 +6,7 @@ use mathlib.Core.List.{List, []}
 use mathlib.Core.Option.{Option, none, some}
 use native.Mathlib.Omega.{arith}
 use Rattle.rules.specs.Syntax.{CompiledSchema}
-use Rattle.rules.specs.Reader.{Rest, rest-at, Reader, _>>=_, bound, give, from}
+use Rattle.rules.specs.Reader.{Rest, rest-at, Reader, _>>=_, bound, from}
 use Rattle.rules.specs.Options.{is-some}
 use Rattle.rules.specs.Image.{rows, readable}
 use Rattle.reading.specs.declared.Checked.{Checked}

@@ -37,3 +37,10 @@ pub record Held {A : Type 0} (At : A → ℕ → ℕ → Type 0) (words : A → 
 pub held-gives : {A : Type 0} (At : A → ℕ → ℕ → Type 0) {r : Reader A} {words : A → List ℕ} {Good : A → Type 0} → Exact r words Good → (ws : List ℕ) (at : ℕ)
     → Gives r ws at (λ a n. At a at n) → Gives r ws at (λ a n. Held At words Good ws a at n)
 held-gives At e ws at g = so-then (both g (exact-gives e ws at)) (λ a n h. record { parts = h .0; words-at = h .1 .0; good = h .1 .1 })
+
+-- the reader gives what stands there
+pub reads-at : {A : Type 0} {r : Reader A} {words : A → List ℕ} {Good : A → Type 0} → Exact r words Good → {ws : List ℕ} {at n : ℕ} (a : A) → Good a → Stands ws (words a) at n → r (rest-at ws at) ≡ some (a, rest-at ws n)
+reads-at {r = r} e {ws} {at} {n} a g s =
+    ap (λ (l : List ℕ). r (record { at = at; left = l })) (s .left)
+    ∙ e .reads a g .on at (drop n ws)
+    ∙ ap (λ (m : ℕ). some (a, record { at = m; left = drop n ws })) (sym (s .next))
