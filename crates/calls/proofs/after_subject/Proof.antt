@@ -1,9 +1,9 @@
--- `calls::behind` meets its contract. Assumes nothing.
+-- `calls::after_subject` meets its contract. Assumes nothing.
 use borrow.Author.Needs.{needs}
 use Rattle.expected.proofs.AskedOf.{asked}
 use Rattle.calls.proofs.Splits.{are-signatures, is-projection, few-projected}
-use Rattle.calls.proofs.behind.Statement.{statement}
-use Rattle.calls.proofs.behind.Tie as tie
+use Rattle.calls.proofs.after_subject.Statement.{statement}
+use Rattle.calls.proofs.after_subject.Tie as tie
 
 expected-functions-requires : tie.Need-expected-functions-requires
 expected-functions-requires c κs = (c .before .before .before .before .before .pre .0, asked (c .before .before .before .before .before .pre .1))
@@ -14,8 +14,8 @@ returns c = λ a few. are-signatures (a .schema) (a .impl) (a .trait) (c .before
 returns-2 : tie.Need-returns-2
 returns-2 c = λ a few. let e = c .before .before .before .before .enum-told2 .given .1 in is-projection (a .schema) (a .impl) (a .trait) e (c .before .before .project .ensures a (few-projected (a .schema) (a .impl) (a .trait) e few))
 
-pub behind-spec : {M : Type 1} → statement M
-behind-spec =
+pub after-subject-spec : {M : Type 1} → statement M
+after-subject-spec =
     tie.close
     (tie.spec
     (λ c. search needs)

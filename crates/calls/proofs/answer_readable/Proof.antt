@@ -1,12 +1,12 @@
--- `calls::readable` meets its contract: one pass answers, or a second one writes. Assumes nothing.
+-- `calls::answer_readable` meets its contract: one pass answers, or a second one writes. Assumes nothing.
 use borrow.Author.Needs.{needs}
 use native.Mathlib.Omega.{arith}
 use Rattle.answers.proofs.Calls.{is-accepted}
 use Rattle.ending.proofs.Again.{accepted-again, written-again}
 use Rattle.calls.specs.Calls.{call-of}
 use Rattle.calls.proofs.Splits.{fits}
-use Rattle.calls.proofs.readable.Statement.{statement}
-use Rattle.calls.proofs.readable.Tie as tie
+use Rattle.calls.proofs.answer_readable.Statement.{statement}
+use Rattle.calls.proofs.answer_readable.Tie as tie
 
 finish-requires : tie.Need-finish-requires
 finish-requires c κs =
@@ -26,8 +26,8 @@ cast-accept c =
 returns-2 : tie.Need-returns-2
 returns-2 c = λ s o. written-again (c .before .before .before .before .before .before .before .before .before .before .before .before .before .before .before .before .pass .ensures s o) (c .before .before .before .before .before .before .before .before .before .before .before .finish .ensures) (c .before .before .before .before .before .before .if1 .left) (c .before .before .before .before .pass2 .ensures s o) (c .accept .result) (c .accept .ensures)
 
-pub readable-spec : {M : Type 1} → statement M
-readable-spec =
+pub answer-readable-spec : {M : Type 1} → statement M
+answer-readable-spec =
     tie.close
     (tie.spec
     (λ c. search needs)
