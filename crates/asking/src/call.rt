@@ -16,10 +16,11 @@ fn answer(call: Call, image: &[u8], output: &mut [u8], detail: &mut [u8]) -> Ans
     portable::answer(call, image, number, output, detail)
 }
 
-// One byte more than an image can have is lent, so that no longer input is cut to an image.
+// The call on the image in standard input, for its lowest implementation: answered, and printed. There is room for one
+// byte more than an image can have, so an input longer than an image is read as too long: it is not cut to one.
 pub fn run(call: Call) {
     let mut image = [0u8; 65537];
-    let input = asking::input::read_to_end(STDIN_FILENO, &mut image);
+    let input = crate::input::read_to_end(STDIN_FILENO, &mut image);
     if !input.ok {
         os::fail(b"standard input");
         return;
@@ -28,7 +29,7 @@ pub fn run(call: Call) {
     let mut output = [0u8; 65536];
     let mut detail = [0u8; 576];
     let a = answer(call, &image[..n], &mut output, &mut detail);
-    if !asking::lines::print_answer(a, &output) {
+    if !crate::lines::print_answer(a, &output) {
         os::fail(b"standard output");
     }
 }
