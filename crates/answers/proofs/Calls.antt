@@ -17,6 +17,7 @@ use Rattle.answers.specs.declared.answer.Answer.{Answer}
 use Rattle.answers.specs.declared.answer.Outcome.{Outcome}
 use Rattle.answers.specs.Refusals.{refusal-of}
 use Rattle.answers.specs.Writes.{Writes}
+use Rattle.answers.proofs.Fields.{short-of, accepts-of}
 use Rattle.answers.specs.Answers.{answer-of, Refuses, TooShort, AcceptsAll, Agrees, Comes}
 
 pub comes-err : {call : Result (ℕ × List ℕ)} {e : rules.Refusal} {old new : List ℕ} {r : Outcome} → call ≡ err e → r .ok ≡ false → refusal-of (r .refusal) ≡ e → Comes call old new r
@@ -64,12 +65,12 @@ module _ (call : Result (ℕ × List ℕ)) (a : Answer) where
       ∙ ap (λ (b : Bool). elim b as (λ _. rules-answer.Answer) [ true ↦ accepted v ws output detail | false ↦ too-short ws output detail ]) t
 
   pub ends-short : {v n : ℕ} {ws : List ℕ} → call ≡ ok (v, ws) → n ≡ 4 * length ws → TooShort a n → (output detail : List ℕ) → length output < n → answer-of a output detail ≡ finished call output detail
-  ends-short {v} {n} {ws} q e f output detail l = f ws output detail e ∙ sym (finished-at false output detail (lt-leb (4 * length ws) (length output) (omega (arith, e))) q)
+  ends-short {v} {n} {ws} q e f output detail l = short-of f ws output detail e ∙ sym (finished-at false output detail (lt-leb (4 * length ws) (length output) (omega (arith, e))) q)
 
   pub ends-accepted : {v n : ℕ} {ws : List ℕ} → call ≡ ok (v, ws) → AcceptsAll a n v → {output new : List ℕ} → Writes ws 0 n output new → (detail : List ℕ) → n ≤ length output
       → answer-of a new detail ≡ finished call output detail
   ends-accepted {v} {n} {ws} q f {output} {new} w detail l =
       let e : n ≡ 4 * length ws = omega (arith, w .place) in
       ap (λ (o : List ℕ). answer-of a o detail) (w .bytes ∙ puts-start (length output) ws output (omega (arith, e)) (le-refl _))
-      ∙ f ws output detail e
+      ∙ accepts-of f ws output detail e
       ∙ sym (finished-at true output detail (le-leb (4 * length ws) (length output) (omega (arith, e))) q)

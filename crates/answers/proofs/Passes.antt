@@ -1,5 +1,5 @@
--- Two passes over one output: the first lends none of it. Assumes nothing.
-use Prim.Native.Nat.{ℕ, _+_, _<_, _^_}
+-- Two passes of one call. Assumes nothing.
+use Prim.Native.Nat.{ℕ, _<_, _^_}
 use mathlib.Core.Path.{_≡_, refl, sym, ap, subst, _∙_}
 use mathlib.Core.List.{List, [], _∷_, _++_}
 use native.Mathlib.Omega.{arith}
@@ -8,23 +8,13 @@ use Rattle.rules.specs.Refusal.{Result, ok}
 use Rattle.rules.specs.Answer as rules
 use Rattle.answers.specs.declared.answer.Answer.{Answer}
 use Rattle.answers.specs.declared.answer.Outcome.{Outcome}
-use Rattle.answers.specs.Answers.{answer-of, AcceptsAll, Agrees, Comes}
+use Rattle.answers.specs.Answers.{AcceptsAll, Agrees, Comes}
 use Rattle.answers.proofs.Calls.{Accepted, is-accepted}
 
 -- none of a list lies before the rest of it
 pub front : (xs ys : List ℕ) → length xs ≡ 0 → xs ++ ys ≡ ys
 front [] ys e = refl
 front (x ∷ xs) ys e = absurd (omega arith)
-
--- none of the output was lent: all of it stays
-pub untouched : (a : Answer) (xs output detail : List ℕ) {x : rules.Answer} → length xs ≡ 0 → answer-of a output detail ≡ x → answer-of a (xs ++ output) detail ≡ x
-untouched a xs output detail e q = ap (λ (o : List ℕ). answer-of a o detail) (front xs output e) ∙ q
-
-pub untouched-comes : (xs output : List ℕ) {call : Result (ℕ × List ℕ)} {new : List ℕ} {r : Outcome} → length xs ≡ 0 → Comes call (xs ++ output) new r → Comes call output new r
-untouched-comes xs output {call} {new} {r} e c = subst (λ (o : List ℕ). Comes call o new r) (front xs output e) c
-
-pub untouched-length : (xs output : List ℕ) → length xs ≡ 0 → length (xs ++ output) ≡ length output
-untouched-length xs output e = ap length (front xs output e)
 
 -- a second pass of an accepted call is accepted, and has its length
 pub again : {call : Result (ℕ × List ℕ)} {old new older newer : List ℕ} {r q : Outcome} → Accepted call old new r → Comes call older newer q → Accepted call older newer q

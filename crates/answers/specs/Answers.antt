@@ -1,14 +1,13 @@
 -- The rules' answer, of the five fields that code gives back and the two buffers after the call.
-use Prim.Native.Nat.{ℕ, _*_}
+use Prim.Native.Nat.{ℕ}
 use mathlib.Core.Path.{_≡_}
 use mathlib.Core.Bool.{true, false}
 use mathlib.Core.List.{List}
-use lib.ListN.{length}
-use Rattle.rules.specs.Words.{bytes-of, over-start}
+use Rattle.rules.specs.Words.{NONE}
 use Rattle.rules.specs.Refusal as rules
 use Rattle.rules.specs.Refusal.{Result, ok, err, refusal}
 use Rattle.rules.specs.Answer as rules-answer
-use Rattle.rules.specs.Answer.{refused, accepted, too-short}
+use Rattle.rules.specs.Answer.{refused}
 use Rattle.answers.specs.declared.answer.Answer.{Answer}
 use Rattle.answers.specs.declared.answer.Outcome.{Outcome}
 use Rattle.answers.specs.Refusals.{refusal-of}
@@ -33,13 +32,21 @@ Refuses a e old new = (output : List ℕ) → answer-of a output new ≡ refused
 abbrev pub RefusesAlone : Answer → ℕ → Type 0
 RefusesAlone a n = (detail : List ℕ) → Refuses a (refusal n) detail detail
 
--- a says 24 of any words of this length
-abbrev pub TooShort : Answer → ℕ → Type 0
-TooShort a n = (words output detail : List ℕ) → n ≡ 4 * length words → answer-of a output detail ≡ too-short words output detail
+-- a has these fields, and no names
+pub record Unnamed (a : Answer) (number n visits : ℕ) : Type 0 where
+  pub number-is : a .number ≡ number
+  pub function-is : a .function .0 ≡ NONE
+  pub second-is : a .second .0 ≡ NONE
+  pub length-is : a .length ≡ n
+  pub visits-is : a .visits ≡ visits
 
--- a accepts any words of this length
+-- a says 24 of so many bytes
+abbrev pub TooShort : Answer → ℕ → Type 0
+TooShort a n = Unnamed a 24 n 0
+
+-- a accepts so many bytes
 abbrev pub AcceptsAll : Answer → ℕ → ℕ → Type 0
-AcceptsAll a n visits = (words output detail : List ℕ) → n ≡ 4 * length words → answer-of a (over-start (bytes-of words) output) detail ≡ accepted visits words output detail
+AcceptsAll a n visits = Unnamed a 0 n visits
 
 abbrev pub Agrees : Result (ℕ × List ℕ) → List ℕ → List ℕ → Outcome → Type 0
 Agrees (err e) old new r = (r .ok ≡ false) × (refusal-of (r .refusal) ≡ e)

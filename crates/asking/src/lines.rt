@@ -22,8 +22,8 @@ fn print_words(output: &[u8], count: u32) -> bool {
     true
 }
 
-// The five fields on a line.
-fn print_fields(a: Answer) -> bool {
+// The five fields on a line. Whether they were written.
+pub fn print_fields(a: Answer) -> bool {
     let function = a.function;
     let second = a.second;
     if !print_number(a.number, b' ') {

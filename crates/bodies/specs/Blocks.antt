@@ -17,7 +17,7 @@ use Rattle.rules.specs.Output.{statement-words, each}
 use Rattle.rules.specs.ReadBodies.{let-count, lets}
 use Rattle.laws.specs.Runs.{stored-statement-words}
 use Rattle.reading.specs.Gives.{Row}
-use Rattle.stored.specs.Heads.{head}
+use Rattle.reading.specs.Heads.{head}
 use Rattle.held.specs.declared.types.MaybeType.{MaybeType}
 use Rattle.held.specs.Holds.{MaybeHolds}
 use Rattle.layout.specs.declared.Layout.{Layout}

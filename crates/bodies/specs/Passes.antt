@@ -14,7 +14,7 @@ use Rattle.rules.specs.Bodies.{PortableStatement, with-local, assigned-field, p
 use Rattle.rules.specs.Output.{statement-words, each}
 use Rattle.rules.specs.ReadBodies.{let-count}
 use Rattle.laws.specs.Runs.{stored-statement-words}
-use Rattle.stored.specs.Heads.{head}
+use Rattle.reading.specs.Heads.{head}
 use Rattle.layout.specs.declared.Layout.{Layout}
 use Rattle.pool_bodies.specs.StatementAt.{Statement-stands}
 use Rattle.places.specs.declared.Context.{Context}

@@ -22,7 +22,7 @@ use Rattle.projection.specs.Steps.{projected-words}
 use Rattle.projection.specs.Asked.{Few}
 use Rattle.projection.proofs.WholeLaws.{behind-trait}
 use Rattle.calls.specs.declared.Call.{Call}
-use Rattle.calls.specs.Calls.{call-of, behind-words}
+use Rattle.calls.specs.Calls.{call-of, after-subject}
 
 abbrev with-trait : ImplDef → Result TraitDef → Result (ImplDef × TraitDef)
 with-trait i t = t >>= λ trait. ok (i, trait)
@@ -64,8 +64,8 @@ each-o (err e) h = refl
 each-o (ok i) h = h i
 
 module _ (c : Call) (row : ℕ) (s : CompiledSchema) where
-  splits : call-of c row s ≡ of-both s (behind-words c s) (subject row s)
-  unfolding call-of behind-words project-call signatures-call
+  splits : call-of c row s ≡ of-both s (after-subject c s) (subject row s)
+  unfolding call-of after-subject project-call signatures-call
   splits = elim c [
     | Call.Signatures ↦ each-o (find-implementation s row) (signatures-behind s) ∙ chain s (λ i t. in-words (expected-functions s t i)) row
     | Call.Projection ↦ each-o (find-implementation s row) (behind-trait s) ∙ chain s (projected-words s) row
@@ -74,25 +74,25 @@ module _ (c : Call) (row : ℕ) (s : CompiledSchema) where
   -- 3 and 4 are the call's
   pub none-found : {e : Refusal} → subject row s ≡ err e → call-of c row s ≡ err e
   unfolding _>>=_
-  none-found q = splits ∙ ap (of-both s (behind-words c s)) q
+  none-found q = splits ∙ ap (of-both s (after-subject c s)) q
 
-  pub both-found : {i : ImplDef} {t : TraitDef} → subject row s ≡ ok (i, t) → call-of c row s ≡ behind-words c s i t
+  pub both-found : {i : ImplDef} {t : TraitDef} → subject row s ≡ ok (i, t) → call-of c row s ≡ after-subject c s i t
   unfolding _>>=_
-  both-found q = splits ∙ ap (of-both s (behind-words c s)) q
+  both-found q = splits ∙ ap (of-both s (after-subject c s)) q
 
 -- which call it is
 module _ {c : Call} (s : CompiledSchema) (i : ImplDef) (t : TraitDef) where
-  pub are-signatures : {old new : List ℕ} {r : Outcome} → c ≡ Call.Signatures → Comes (in-words (expected-functions s t i)) old new r → Comes (behind-words c s i t) old new r
-  unfolding behind-words
-  are-signatures e = comes-same (ap (λ (k : Call). behind-words k s i t) e)
+  pub are-signatures : {old new : List ℕ} {r : Outcome} → c ≡ Call.Signatures → Comes (in-words (expected-functions s t i)) old new r → Comes (after-subject c s i t) old new r
+  unfolding after-subject
+  are-signatures e = comes-same (ap (λ (k : Call). after-subject k s i t) e)
 
-  pub is-projection : {old new : List ℕ} {r : Outcome} → c ≡ Call.Projection → Comes (projected-words s i t) old new r → Comes (behind-words c s i t) old new r
-  unfolding behind-words
-  is-projection e = comes-same (ap (λ (k : Call). behind-words k s i t) e)
+  pub is-projection : {old new : List ℕ} {r : Outcome} → c ≡ Call.Projection → Comes (projected-words s i t) old new r → Comes (after-subject c s i t) old new r
+  unfolding after-subject
+  is-projection e = comes-same (ap (λ (k : Call). after-subject k s i t) e)
 
-  pub few-projected : c ≡ Call.Projection → Few (behind-words c s i t) → Few (projected-words s i t)
-  unfolding behind-words
-  few-projected e few v ws q = few v ws (ap (λ (k : Call). behind-words k s i t) e ∙ q)
+  pub few-projected : c ≡ Call.Projection → Few (after-subject c s i t) → Few (projected-words s i t)
+  unfolding after-subject
+  few-projected e few v ws q = few v ws (ap (λ (k : Call). after-subject k s i t) e ∙ q)
 
 -- what is accepted has few words
 pub few : (c : Call) {image : List ℕ} {l : Layout} {s : CompiledSchema} → Open image l s → (row : ℕ) → Few (call-of c row s)

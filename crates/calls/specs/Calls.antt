@@ -15,9 +15,9 @@ call-of Call.Signatures row schema = signatures-call row schema
 call-of Call.Projection row schema = project-call row schema
 
 -- what it comes to where there are an implementation and its trait
-unfoldable pub behind-words : Call → CompiledSchema → ImplDef → TraitDef → Result (ℕ × List ℕ)
-behind-words Call.Signatures schema impl trait = in-words (expected-functions schema trait impl)
-behind-words Call.Projection schema impl trait = projected-words schema impl trait
+unfoldable pub after-subject : Call → CompiledSchema → ImplDef → TraitDef → Result (ℕ × List ℕ)
+after-subject Call.Signatures schema impl trait = in-words (expected-functions schema trait impl)
+after-subject Call.Projection schema impl trait = projected-words schema impl trait
 
 -- what it answers
 abbrev pub answer-for : Call → List ℕ → ℕ → List ℕ → List ℕ → Answer

@@ -17,7 +17,7 @@ ghost use Rattle.layout.specs.Opens.{Opens};
 ghost use Rattle.answers.specs.Answers.{answer-of, Comes};
 ghost use Rattle.subject.specs.Subjects.{About};
 ghost use Rattle.projection.specs.Asked.{Few};
-ghost use Rattle.calls.specs.Calls.{call-of, behind-words};
+ghost use Rattle.calls.specs.Calls.{call-of, after-subject};
 
 pub enum Call {
     Signatures,
@@ -25,9 +25,9 @@ pub enum Call {
 }
 
 // What comes behind 3 and 4.
-fn behind(call: Call, image: &[u8], l: Layout, f: Subject, out: &mut [u8]) -> Outcome
+fn after_subject(call: Call, image: &[u8], l: Layout, f: Subject, out: &mut [u8]) -> Outcome
     requires { ⌜ Cut (now image) l × About (now image) l f ⌝ }
-    ensures { λ r. ⌜ ((a : About (now (image .entry)) l f) → Few (behind-words call (a .schema) (a .impl) (a .trait)) → Comes (behind-words call (a .schema) (a .impl) (a .trait)) (now (out .entry)) (now (out .exit)) r) ⌝ }
+    ensures { λ r. ⌜ ((a : About (now (image .entry)) l f) → Few (after-subject call (a .schema) (a .impl) (a .trait)) → Comes (after-subject call (a .schema) (a .impl) (a .trait)) (now (out .entry)) (now (out .exit)) r) ⌝ }
 {
     match call {
         Call::Signatures => expected::expected_functions(image, l, f.start, f.types, out),
@@ -44,11 +44,11 @@ fn pass(call: Call, image: &[u8], l: Layout, number: TypeId, out: &mut [u8]) -> 
     if f.number != 0 {
         return answers::answer::refused(Refusal::named(f.number, NameId::NONE, f.name));
     }
-    behind(call, image, l, f, out)
+    after_subject(call, image, l, f, out)
 }
 
 // The answer. The first pass keeps its words; where they are too many for that, a second one writes them.
-pub fn readable(
+pub fn answer_readable(
     call: Call,
     image: &[u8],
     l: Layout,

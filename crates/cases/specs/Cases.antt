@@ -1,12 +1,13 @@
 -- A stored case as its words tell it (vectors/README.md).
 use Prim.Native.Nat.{ℕ, _+_, _≤_, _<_}
-use mathlib.Core.Path.{_≡_, sym, ap, _∙_}
+use mathlib.Core.Path.{_≡_, refl, sym, ap, _∙_}
 use mathlib.Core.Bool.{Bool, true, false, _&&_}
 use mathlib.Core.List.{List}
 use native.Mathlib.Omega.{arith}
 use lib.Dec.{leb}
-use borrow.Author.Tests.{le-leb, lt-leb}
+use borrow.Author.Tests.{le-leb, lt-leb, leb-true}
 use lib.ListN.{length}
+use Rattle.rules.proofs.Clash.{clash}
 use Rattle.words.specs.Words.{word-at}
 use Rattle.cases.specs.declared.case.Case.{Case}
 
@@ -82,3 +83,21 @@ module _ (file : List ℕ) (at a b c : ℕ) (ea : a ≡ word-at file (at + 16)) 
   unfolding case-at
   ends-behind r e h =
       (omega (arith, ap (λ (k : Case). k .next) e), e ∙ ap (λ (t : Bool). whole-or-none t (case-words file at)) (sym (lt-leb _ _ (rw (ea, eb, ec) at h))))
+
+-- a case that can be asked: its words lie in the file, and it lends no more than a replay has room for
+abbrev pub Askable : List ℕ → Case → Type 0
+Askable file c = (c .fields ≤ length file) × (c .output ≤ 65536) × (c .detail ≤ 1024)
+
+both : (a b : Bool) → a && b ≡ true → (a ≡ true) × (b ≡ true)
+both true b e = (refl, e)
+both false b e = clash (cc)
+
+-- as is every case that is ok
+pub ok-askable : (file : List ℕ) (at : ℕ) (c : Case) → c ≡ case-at file at → c .ok ≡ true → Askable file c
+unfolding case-at
+ok-askable file at c = go (leb (case-end file at) (length file)) refl where
+  go : (t : Bool) → leb (case-end file at) (length file) ≡ t → c ≡ whole-or-none t (case-words file at) → c .ok ≡ true → Askable file c
+  go true q e o =
+      let l = both (leb (word-at file (at + 8)) 65536) (leb (word-at file (at + 12)) 1024) (sym (ap (λ (k : Case). k .ok) e) ∙ o) in
+      (omega (arith, leb-true (case-end file at) (length file) q, ap (λ (k : Case). k .fields) e), rw e (leb-true _ _ (l .0)), rw e (leb-true _ _ (l .1)))
+  go false q e o = let b : false ≡ true = sym (ap (λ (k : Case). k .ok) e) ∙ o in clash (cc)

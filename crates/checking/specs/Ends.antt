@@ -1,37 +1,20 @@
 -- A function's parts, from the places that the code has.
 use Prim.Native.Nat.{ℕ, _+_, _<_}
-use mathlib.Core.Path.{_≡_, sym, ap, subst, _∙_}
+use mathlib.Core.Path.{_≡_, sym, subst, _∙_}
 use mathlib.Core.Bool.{true, false}
-use mathlib.Core.List.{List, _∷_, _++_, append-assoc}
+use mathlib.Core.List.{List}
 use mathlib.Core.Option.{Option, none, some}
 use native.Mathlib.Omega.{arith}
-use native.Mathlib.Numerals.{add-one}
-use lib.ListN.{length, drop, getD, length-append}
-use lib.Seq.{drop-cons}
+use lib.ListN.{length, getD}
 use Rattle.rules.specs.Syntax.{ResolvedType, run, Param}
 use Rattle.rules.proofs.Types.{Stored}
 use Rattle.held.specs.declared.types.HeldType.{HeldType}
 use Rattle.held.specs.declared.types.MaybeType.{MaybeType}
 use Rattle.held.specs.Holds.{Holds, MaybeHolds}
-use Rattle.reading.specs.Gives.{Word, Counted, Maybe-at}
+use Rattle.reading.specs.Gives.{Counted, Maybe-at}
 use Rattle.reading.specs.Stands.{Stands}
 use Rattle.pool_types.specs.TypeAt.{Type-stands}
 use Rattle.pool_types.specs.ParamAt.{Param-at}
-
-module _ {ws : List ℕ} where
-  -- a word before what stands
-  pub word-before : {w at n : ℕ} {xs : List ℕ} → Word ws at w → Stands ws xs (at + 1) n → Stands ws (w ∷ xs) at n
-  word-before {w} {at} {n} {xs} i s = record {
-    left = drop-cons ws at 0 (i .inside) ∙ ap (λ (l : List ℕ). getD ws at 0 ∷ l) (ap (λ (k : ℕ). drop k ws) (sym (add-one at)) ∙ s .left) ∙ ap (λ (k : ℕ). k ∷ (xs ++ drop n ws)) (i .is);
-    next = omega (arith, s .next);
-  }
-
-  -- one run behind another
-  pub run-behind : {xs ys : List ℕ} {at m n : ℕ} → Stands ws xs at m → Stands ws ys m n → Stands ws (xs ++ ys) at n
-  run-behind {xs} {ys} {at} {m} {n} s t = record {
-    left = s .left ∙ ap (λ (l : List ℕ). xs ++ l) (t .left) ∙ sym (append-assoc xs ys (drop n ws));
-    next = omega (arith, s .next, t .next, length-append xs ys);
-  }
 
 -- over the number of name rows and the words
 module _ (names : ℕ) (ws : List ℕ) where

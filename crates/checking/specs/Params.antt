@@ -9,7 +9,7 @@ use lib.Dec.{eqb}
 use borrow.Author.Tests.{eq-eqb, ne-eqb}
 use Rattle.rules.specs.Syntax.{ResolvedType, run, Param}
 use Rattle.rules.specs.Types.{same-type}
-use Rattle.rules.specs.Refusal.{Result, ok, _>>=_, ensure, with-detail}
+use Rattle.rules.specs.Refusal.{Result, _>>=_, ensure, with-detail}
 use Rattle.rules.specs.CheckSignature.{check-params}
 use Rattle.held.specs.declared.types.HeldType.{HeldType}
 use Rattle.held.specs.Runs.{held-run}

@@ -1,5 +1,5 @@
 -- Words kept in a buffer and then copied are words written. Assumes nothing.
-use Prim.Native.Nat.{ℕ, _+_, _*_, _≤_}
+use Prim.Native.Nat.{ℕ, _+_, _≤_}
 use mathlib.Core.Path.{_≡_, sym, ap, _∙_}
 use mathlib.Core.List.{List, _++_}
 use native.Mathlib.Omega.{arith}
@@ -8,7 +8,7 @@ use lib.ListN.{length, take, drop}
 use lib.Seq.{take-at, take-length, length-take-le}
 use Rattle.rules.specs.Words.{bytes-of}
 use Rattle.words.specs.Words.{length-bytes-of}
-use Rattle.words.specs.Puts.{puts, puts-fits}
+use Rattle.words.specs.Puts.{puts-fits}
 use Rattle.answers.specs.Writes.{Writes, writes-length}
 
 -- words that fit stand at the start

@@ -36,7 +36,7 @@ fn export(
     put_answer(answer, a)
 }
 
-// portable::expected_signatures.
+// As portable::expected_signatures, with the answer in a block.
 #[no_mangle]
 pub extern "C" fn fruscalitu_expected_signatures(
     image: &[u8],
@@ -50,7 +50,7 @@ pub extern "C" fn fruscalitu_expected_signatures(
     export(Call::Signatures, image, number, output, detail, answer)
 }
 
-// portable::project_impl.
+// As portable::project_impl, with the answer in a block.
 #[no_mangle]
 pub extern "C" fn fruscalitu_project_impl(
     image: &[u8],

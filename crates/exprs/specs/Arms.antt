@@ -12,7 +12,7 @@ use Rattle.rules.specs.Refusal.{err, with-name}
 use Rattle.rules.specs.Infer.{PortableExprKind, FunctionContext, expression-hint, ended, infer-expr}
 use Rattle.rules.specs.declared.kinds.ExprKind.{ExprKind}
 use Rattle.laws.specs.Runs.{expr-words}
-use Rattle.stored.specs.Heads.{head, tail, inside}
+use Rattle.reading.specs.Heads.{head, tail, inside}
 use Rattle.places.specs.Stood.{Stood}
 use Rattle.places.specs.Nodes.{by-code, local-word, field-word, call-word}
 use Rattle.inferred.specs.declared.answers.Inferred.{Inferred}

@@ -8,12 +8,12 @@ pub struct Front {
     pub layout: Layout,
 }
 
-// 1 where a detail of so many bytes is lent that a refusal's may not fit it, then 2.
-pub fn look(image: &[u8], room: usize) -> Front
-    ensures { λ r. ⌜ Fronts (now (image .entry)) room r ⌝ }
+// 1 where fewer than 576 bytes of detail are lent, then 2 where the image is not readable.
+pub fn look(image: &[u8], lent: usize) -> Front
+    ensures { λ r. ⌜ Fronts (now (image .entry)) lent r ⌝ }
 {
-    if room < 576 {
-        let none = sections::refused();
+    if lent < 576 {
+        let none = sections::no_layout();
         let layout = none.layout;
         return Front { number: 1, layout };
     }

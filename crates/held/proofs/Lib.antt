@@ -1,5 +1,4 @@
 -- Laws of held types.
 pub mod Runs
 pub mod Trees
-pub mod Bounded
 pub mod Maybe

@@ -4,8 +4,6 @@ use mathlib.Core.Path.{_≡_, refl, sym, _∙_}
 use mathlib.Core.Bool.{true, false, false≢true}
 use mathlib.Core.Option.{Option, none, some}
 use Rattle.rules.specs.Syntax.{ResolvedType}
-use Rattle.rules.proofs.Types.{run-injective}
-use Rattle.held.specs.declared.types.HeldType.{HeldType}
 use Rattle.held.specs.declared.types.MaybeType.{MaybeType}
 use Rattle.held.specs.Holds.{Holds, MaybeHolds}
 
@@ -21,6 +19,3 @@ some-of (some t) h e = record { value = t; is = refl; holds = h .1 }
 pub none-of : (names : ℕ) (m : MaybeType) (o : Option ResolvedType) → MaybeHolds names m o → m .some ≡ false → o ≡ none
 none-of names m none h e = refl
 none-of names m (some t) h e = absurd (false≢true (sym e ∙ h .0))
-
-pub held-once : {names : ℕ} {h : HeldType} {t u : ResolvedType} → Holds names h t → Holds names h u → t ≡ u
-held-once {names} {t = t} {u = u} p q = run-injective names t u (p .good) (q .good) (sym (p .run) ∙ q .run)

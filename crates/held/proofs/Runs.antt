@@ -6,7 +6,7 @@ use native.Mathlib.Decide.{decLe}
 use native.Mathlib.Nat.{add-zero, add-assoc}
 use mathlib.Core.Path.{_≡_, sym, ap, _∙_, subst}
 use mathlib.Core.Bool.{true, false, false≢true}
-use mathlib.Core.List.{List, [], _∷_, _++_, append-nil, append-assoc}
+use mathlib.Core.List.{List, _++_, append-nil, append-assoc}
 use lib.ListN.{length, take, set, getD, length-take, length-append, List·getD-eq-default}
 use lib.Seq.{getD-take, take-suc, take-suc-set, take-all}
 use borrow.Author.Tests.{le-leb, lt-leb, leb-false}
@@ -54,10 +54,6 @@ grown h l r = record { ok = sym (le-leb (length l) 64 (omega (arith, r .count, r
 
 pub not-grown : (h : HeldType) (l : List ℕ) → 64 < length l → Grows l (record { ok = false; ty = h })
 not-grown h l m = record { ok = sym (lt-leb (length l) 64 m); runs = λ e. absurd (false≢true e) }
-
--- one word behind a run
-pub pushed : (h : HeldType) (n w : ℕ) → length (h .words) ≡ 64 → n ≡ length (held-run h) → n < 64 → take (n + 1) (set (h .words) n w) ≡ held-run h ++ (w ∷ [])
-pushed h n w l e b = rw (add-one, take-suc-set (h .words) n w (omega arith), run-take h n l e)
 
 -- a copy of m words behind n: at the start, and one word further
 pub copied-none : (n : ℕ) (from words : List ℕ) → take (n + 0) words ≡ take n words ++ take 0 from

@@ -77,25 +77,6 @@ impl HeldType {
         HeldType { words, len: 2 }
     }
 
-    // One word more at the end.
-    pub fn push(self, w: u32) -> Grown
-        ensures { λ r. ⌜ Grows (held-run self ++ (w ∷ [])) r ⌝ }
-    {
-        let n = self.count();
-        if n < 64 {
-            let mut words = self.words;
-            words[n] = w;
-            return Grown {
-                ok: true,
-                ty: HeldType { words, len: n + 1 },
-            };
-        }
-        Grown {
-            ok: false,
-            ty: self,
-        }
-    }
-
     // Another run behind this one.
     pub fn append(self, other: HeldType) -> Grown
         ensures { λ r. ⌜ Grows (held-run self ++ held-run other) r ⌝ }

@@ -6,7 +6,7 @@ use mathlib.Core.List.{List, []}
 use mathlib.Core.Option.{Option, none, some}
 use native.Mathlib.Omega.{arith}
 use Rattle.rules.specs.Syntax.{CompiledSchema}
-use Rattle.rules.specs.Reader.{Rest, rest-at, Reader, _>>=_, bound, give, from}
+use Rattle.rules.specs.Reader.{Rest, rest-at, Reader, _>>=_, bound, from}
 use Rattle.rules.specs.Options.{is-some}
 use Rattle.rules.specs.Image.{rows, readable}
 use Rattle.reading.specs.declared.Checked.{Checked}
@@ -22,8 +22,9 @@ use Rattle.layout.specs.Rows.{Cut}
 use Rattle.layout.specs.Readers.{rows-of}
 use Rattle.layout.specs.Open.{Open}
 use Rattle.sections.specs.Laid.{value, opened-told, Laid}
-use Rattle.rows.specs.Verdict.{verdict, NamesSay, StringsSay, DefinitionsSay}
-use Rattle.rows.proofs.Rows.{elsewhere}
+use Rattle.rows.specs.declared.Rows.{Rows}
+use Rattle.rows.specs.Verdict.{verdict, RowsSay}
+use Rattle.rows.proofs.RowSteps.{elsewhere}
 use Rattle.rows.proofs.Layouts.{Names, names-give, strings-give, Definitions, definitions-give, texts-rule}
 use Rattle.image.specs.Verdict.{Verdict}
 
@@ -37,26 +38,26 @@ from-as {A} {r} {words} {start} s y {f} {ws} {at} {d} h =
 
 -- what the checks of names, texts, strings and definitions say of all rows
 module _ (image : List ℕ) (l : Layout) where
-  pub names-refuse : {n : Bool} → NamesSay image l n → n ≡ false → Says (rows-of image l) [] 0 refusal
+  pub names-refuse : {n : Bool} → RowsSay Rows.Names image l n → n ≡ false → Says (rows-of image l) [] 0 refusal
   unfolding rows
-  names-refuse s e = from-stop (subst (NamesSay image l) e s) _ refl
+  names-refuse s e = from-stop (subst (RowsSay Rows.Names image l) e s) _ refl
 
-  module _ (cut : Cut image l) {n : Bool} (s : NamesSay image l n) (y : n ≡ true) {t : Bool} (texts : t ≡ rows-differ image (l .texts) (l .names .rows)) where
+  module _ (cut : Cut image l) {n : Bool} (s : RowsSay Rows.Names image l n) (y : n ≡ true) {t : Bool} (texts : t ≡ rows-differ image (l .texts) (l .names .rows)) where
     pub texts-refuse : t ≡ false → Says (rows-of image l) [] 0 refusal
     unfolding rows
-    texts-refuse e = from-as (subst (NamesSay image l) y s) refl (λ ns q. rule-stop _ (texts-rule image l cut q ∙ sym texts ∙ e))
+    texts-refuse e = from-as (subst (RowsSay Rows.Names image l) y s) refl (λ ns q. rule-stop _ (texts-rule image l cut q ∙ sym texts ∙ e))
 
-    module _ (differ : t ≡ true) {m : Bool} (u : StringsSay image l m) where
+    module _ (differ : t ≡ true) {m : Bool} (u : RowsSay Rows.Strings image l m) where
       pub strings-refuse : m ≡ false → Says (rows-of image l) [] 0 refusal
       unfolding rows
       strings-refuse e =
-          from-as (subst (NamesSay image l) y s) refl (λ ns q. rule-then _ (texts-rule image l cut q ∙ sym texts ∙ differ) (from-stop (subst (StringsSay image l) e u) _ refl))
+          from-as (subst (RowsSay Rows.Names image l) y s) refl (λ ns q. rule-then _ (texts-rule image l cut q ∙ sym texts ∙ differ) (from-stop (subst (RowsSay Rows.Strings image l) e u) _ refl))
 
-      pub definitions-say : m ≡ true → {d : Bool} → DefinitionsSay image l d → Says (rows-of image l) [] 0 (verdict d 0)
+      pub definitions-say : m ≡ true → {d : Bool} → RowsSay Rows.Definitions image l d → Says (rows-of image l) [] 0 (verdict d 0)
       unfolding rows
       definitions-say e v =
-          from-as (subst (NamesSay image l) y s) refl (λ ns q.
-          rule-then _ (texts-rule image l cut q ∙ sym texts ∙ differ) (from-then (subst (StringsSay image l) e u) refl (λ _. elsewhere _ v)))
+          from-as (subst (RowsSay Rows.Names image l) y s) refl (λ ns q.
+          rule-then _ (texts-rule image l cut q ∙ sym texts ∙ differ) (from-then (subst (RowsSay Rows.Strings image l) e u) refl (λ _. elsewhere _ v)))
 
 -- the rows of the schema that they give
 module _ (image : List ℕ) (l : Layout) (cut : Cut image l) where

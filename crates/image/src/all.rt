@@ -1,5 +1,6 @@
 // All rows of an image.
 use layout::Layout;
+use rows::Rows;
 ghost use mathlib.Core.List.{[]};
 ghost use Rattle.reading.specs.Verdict.{Says};
 ghost use Rattle.layout.specs.Rows.{Cut};
@@ -11,7 +12,7 @@ pub fn check_rows(image: &[u8], l: Layout) -> bool
     requires { ⌜ Cut (now image) l ⌝ }
     ensures { λ r. ⌜ Says (rows-of (now (image .entry)) l) [] 0 (verdict r 0) ⌝ }
 {
-    let named = rows::names::check_names(image, l);
+    let named = rows::check_rows(Rows::Names, image, l);
     if !named {
         return false;
     }
@@ -19,8 +20,8 @@ pub fn check_rows(image: &[u8], l: Layout) -> bool
     if !differ {
         return false;
     }
-    if !rows::strings::check_strings(image, l) {
+    if !rows::check_rows(Rows::Strings, image, l) {
         return false;
     }
-    rows::definitions::check_definitions(image, l)
+    rows::check_rows(Rows::Definitions, image, l)
 }

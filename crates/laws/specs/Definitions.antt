@@ -7,17 +7,15 @@ use lib.Dec.{eqb}
 use borrow.Author.Tests.{eqb-true, eqb-false}
 use Rattle.rules.proofs.Exact.{few-exact}
 use Rattle.rules.specs.Syntax.{TraitReturn}
-use Rattle.rules.specs.Reader.{Reader, many}
+use Rattle.rules.specs.Reader.{Reader}
 use Rattle.rules.specs.ReadTypes.{param}
 use Rattle.rules.specs.ReadDefinitions.{message, generic-alias, trait-return, trait-function, trait, impl-function, implementation}
-use Rattle.rules.specs.Output.{listed}
 use Rattle.rules.proofs.ReadBack.{Reads, give-reads, then-reads, end-reads, last-reads, word-reads, rule-reads, below-then}
 use Rattle.rules.proofs.Gives as gives
-use Rattle.rules.proofs.Exact.{Exact, below-exact, many-exact, maybe-exact}
+use Rattle.rules.proofs.Exact.{Exact, below-exact, maybe-exact}
 use Rattle.rules.proofs.Types.{type-exact}
 use Rattle.laws.specs.TypeExprs.{type-expr-exact}
 use Rattle.laws.specs.Statements.{body-exact}
-use Rattle.rules.proofs.Exact.{Few}
 use Rattle.laws.specs.DefinitionRuns.{own, typed-words, message-words, generic-alias-words, trait-return-words, trait-function-words, trait-words}
 use Rattle.laws.specs.DefinitionRuns.{impl-function-words, implementation-words, GoodParam, GoodMessage, GoodAlias, GoodReturn, GoodTraitFunction, GoodTrait}
 use Rattle.laws.specs.DefinitionRuns.{GoodFunction, GoodImpl}

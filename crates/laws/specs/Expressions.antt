@@ -1,9 +1,8 @@
 -- Expressions in the pool: the words of an expression read back to it and nothing else does.
-use Prim.Native.Nat.{ℕ, zero, suc, _≤_, _<_, max}
+use Prim.Native.Nat.{ℕ, zero, suc, _≤_, max}
 use mathlib.Core.Path.{_≡_, refl, sym, ap, ap₂, subst}
 use mathlib.Core.List.{List, [], _∷_, _++_}
 use native.Mathlib.Omega.{arith}
-use borrow.Author.Tests.{lt-ltb}
 use Rattle.rules.proofs.Codes.{literal-kind}
 use Rattle.rules.specs.Syntax.{Expr, Exprs}
 use Rattle.rules.specs.Reader.{Reader, repeat}

@@ -119,7 +119,7 @@ module _ {N : Name → Type 0} {D : TypeDef → Type 0} {E : TypeExpr → Type 0
     unfolding lookup-alias
     alias-kept x = then-any Target (lookup schema x) _ (λ n. then-all D Target (getElem? (schema .definitions) n) one-parameter (at-all D (schema .definitions) n definitions) parameter-kept)
 
-    pub named-kept : (o : Option ℕ) → AllOption (IsNumber P) o → P (named-or-poison schema o)
+    pub named-kept : (o : Option ℕ) → AllOption (IsNumber P) o → P (named-or-poison o)
     unfolding named-or-poison
     named-kept none h = kept .poison
     named-kept (some n) h = h
@@ -127,5 +127,5 @@ module _ {N : Name → Type 0} {D : TypeDef → Type 0} {E : TypeExpr → Type 0
     pub resolve-kept : (ps : List (Param ResolvedType)) (x : ℕ) → All (λ p. P (p .ty)) ps → P (resolve-name schema ps x)
     unfolding resolve-name
     resolve-kept ps x h =
-        or-all P (or-else (find-param x ps) (lookup-primitive-alias schema x)) (named-or-poison schema (lookup schema x))
+        or-all P (or-else (find-param x ps) (lookup-primitive-alias schema x)) (named-or-poison (lookup schema x))
         (or-else-all P (find-param x ps) (lookup-primitive-alias schema x) (param-all P x ps h) (primitive-kept x)) (named-kept (lookup schema x) (lookup-kept x))

@@ -1,5 +1,5 @@
 -- Type expressions in the pool: a run reads back to its expression and nothing else does.
-use Prim.Native.Nat.{ℕ, zero, suc, _≤_, max}
+use Prim.Native.Nat.{ℕ, zero, suc, _≤_}
 use mathlib.Core.Path.{_≡_, refl, sym, ap, ap₂, subst}
 use mathlib.Core.List.{List, [], _∷_, _++_}
 use native.Mathlib.Omega.{arith}
@@ -125,8 +125,3 @@ module _ (names : ℕ) where
         reads = λ e g. x .reads e (record { good = g .good; deep = omega (arith, depth-expr-run names e (g .good), g .short) }, g .short);
         gives = gives.so (x .gives) (λ e ws h. record { is = h .is; good = record { good = h .good .0 .good; short = h .good .1 } });
       }
-
-  -- two good expressions whose runs begin one list are one expression
-  pub expr-prefix-free : (d e : TypeExpr) (a b : List ℕ) → GoodExpr names d → GoodExpr names e → expr-run d ++ a ≡ expr-run e ++ b → (d ≡ e) × (a ≡ b)
-  expr-prefix-free d e a b g h q =
-      exact.prefix-free (expr-tree-exact (max (depth-expr d) (depth-expr e))) d e a b (record { good = g; deep = omega arith }) (record { good = h; deep = omega arith }) q

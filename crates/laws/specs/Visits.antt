@@ -35,7 +35,7 @@ module _ (schema : CompiledSchema) where
   unfoldable pub plain-node : Rec → List (Param ResolvedType) → TypeExpr → Counted ResolvedType
   plain-node rec params (TypeExpr.leaf t) = short 1 t
   plain-node rec params (TypeExpr.named x) = short 1 (resolve-name schema params x)
-  plain-node rec params (TypeExpr.qualified s x) = short 1 (named-or-poison schema (lookup-qualified schema s x))
+  plain-node rec params (TypeExpr.qualified s x) = short 1 (named-or-poison (lookup-qualified schema s x))
   plain-node rec params (TypeExpr.generic x a) = plain-expand rec params a (lookup-alias schema x)
   plain-node rec params (TypeExpr.one c a) = after (rec params a) λ v t. short (suc v) (ResolvedType.one c t)
   plain-node rec params (TypeExpr.fixed low high a) = after (rec params a) λ v t. short (suc v) (ResolvedType.fixed low high t)
@@ -115,7 +115,7 @@ module _ (schema : CompiledSchema) where
   unfolding substitute-node plain-node
   node-cut r params (TypeExpr.leaf t) = bounded-cut 1 t
   node-cut r params (TypeExpr.named x) = bounded-cut 1 (resolve-name schema params x)
-  node-cut r params (TypeExpr.qualified s x) = bounded-cut 1 (named-or-poison schema (lookup-qualified schema s x))
+  node-cut r params (TypeExpr.qualified s x) = bounded-cut 1 (named-or-poison (lookup-qualified schema s x))
   node-cut r params (TypeExpr.generic x a) = expand-cut r params a (lookup-alias schema x)
   node-cut r params (TypeExpr.one c a) = one-part (r params a) (ResolvedType.one c)
   node-cut r params (TypeExpr.fixed low high a) = one-part (r params a) (ResolvedType.fixed low high)

@@ -1,7 +1,7 @@
 -- What the two calls answer on readable images: details of at most 576 bytes, output that the image bounds, and one answer alone.
 use Prim.Native.Nat.{ℕ, _*_, _≤_}
-use mathlib.Core.Path.{_≡_, refl, sym, ap, _∙_}
-use mathlib.Core.List.{List, [], _∷_, _++_}
+use mathlib.Core.Path.{_≡_, refl, sym, _∙_}
+use mathlib.Core.List.{List, [], _∷_}
 use mathlib.Core.Option.{some}
 use native.Mathlib.Omega.{arith}
 use lib.ListN.{length}
@@ -9,9 +9,7 @@ use Rattle.rules.specs.Words.{bytes-of}
 use Rattle.rules.specs.Syntax.{CompiledSchema}
 use Rattle.rules.specs.Image.{readable}
 use Rattle.rules.specs.Refusal.{Refusal, ok, err}
-use Rattle.rules.specs.Output.{functions-words}
 use Rattle.rules.specs.Answer.{Answer, project-call, signatures-call, project-answer, signatures-answer}
-use Rattle.laws.specs.MoreNames.{functions-prefix-free}
 use Rattle.laws.specs.Schema.{readable-good}
 use Rattle.laws_answers.specs.Ends.{Ends, Short}
 use Rattle.laws_answers.specs.Calls.{most-visits, most-output, most-signatures, Written, Listed, project-call-ends, signatures-call-ends}
@@ -42,18 +40,6 @@ module _ (image : List ℕ) (schema : CompiledSchema) (held : readable image ≡
 
   pub signatures-bound : (visits : ℕ) (words : List ℕ) → signatures-call row schema ≡ ok (visits, words) → (visits ≤ most-visits) × (length words ≤ most-signatures)
   signatures-bound visits words e = let w = signatures-ends .gives (visits, words) e in (w .visits, w .small)
-
--- no accepted output begins another, whatever the images
-pub outputs-apart : (image image′ : List ℕ) (schema schema′ : CompiledSchema) (row row′ v v′ : ℕ) (ws ws′ a b : List ℕ)
-    → readable image ≡ some schema → readable image′ ≡ some schema′
-    → project-call row schema ≡ ok (v, ws) → project-call row′ schema′ ≡ ok (v′, ws′)
-    → ws ++ a ≡ ws′ ++ b → (ws ≡ ws′) × (a ≡ b)
-outputs-apart image image′ schema schema′ row row′ v v′ ws ws′ a b h h′ e e′ q =
-    let w = project-ends image schema h row .gives (v, ws) e in
-    let w′ = project-ends image′ schema′ h′ row′ .gives (v′, ws′) e′ in
-    let p = functions-prefix-free (length (schema .names)) (length (schema′ .names)) (w .functions) (w′ .functions) a b (w .good) (w′ .good)
-    (ap (λ (l : List ℕ). l ++ a) (sym (w .are)) ∙ q ∙ ap (λ (l : List ℕ). l ++ b) (w′ .are)) in
-    (w .are ∙ ap functions-words (p .0) ∙ sym (w′ .are), p .1)
 
 -- the answer is one
 module _ (image : List ℕ) (row : ℕ) (output detail : List ℕ) (a b : Answer) where

@@ -6,7 +6,7 @@ use rules::kinds::DefinitionKind;
 ghost use mathlib.Core.Path.{_≡_};
 ghost use Rattle.layout.specs.Rows.{Inside, Fits, row-word, IsNameRow, IsStringRow, IsDefinitionRow};
 
-// A section of rows, each of so many words. How wide a definition row is stands here and nowhere else.
+// A section of rows, each of so many words: how wide a row is, this tells.
 pub struct Table {
     pub words: Section,
     pub rows: u32,

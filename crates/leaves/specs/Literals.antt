@@ -21,7 +21,7 @@ use Rattle.held.proofs.Trees.{plain-holds}
 use Rattle.codes.proofs.Codes.{primitive-in}
 use Rattle.types.specs.Literals.{literal-type}
 use Rattle.types.proofs.Inferred.{literal-typed, literal-refused}
-use Rattle.stored.specs.Heads.{head, tail, inside}
+use Rattle.reading.specs.Heads.{head, tail, inside}
 use Rattle.places.specs.Stood.{Stood}
 use Rattle.inferred.specs.declared.answers.Inferred.{Inferred}
 use Rattle.inferred.specs.Says.{Says}

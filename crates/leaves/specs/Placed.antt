@@ -2,7 +2,7 @@
 use Prim.Native.Nat.{ℕ}
 use mathlib.Core.Path.{_≡_, refl, ap}
 use mathlib.Core.Bool.{true, false}
-use mathlib.Core.Option.{Option, some}
+use mathlib.Core.Option.{Option}
 use Rattle.rules.specs.Syntax.{ResolvedType, Expr}
 use Rattle.rules.specs.Refusal.{Result, err, _>>=_, or-refuse, with-name}
 use Rattle.rules.specs.Infer.{PortableExpr, PortableExprKind, FunctionContext, place, place-type, expression-hint, ended, infer-expr}

@@ -18,7 +18,8 @@ use Rattle.reading.specs.Gives.{of}
 use Rattle.reading.specs.Stands.{Stands}
 use Rattle.layout.specs.Open.{AliasStands}
 use Rattle.pool_types.specs.TypeAt.{Type-stands, type-gives, shape}
-use Rattle.stored.specs.Heads.{head, tail, type-head}
+use Rattle.reading.specs.Heads.{head, tail}
+use Rattle.stored.specs.Heads.{type-head}
 
 -- a primitive's code
 plain-code : (c : ℕ) → c < 14 → type-kind c ≡ TypeKind.Plain

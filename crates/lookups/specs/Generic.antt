@@ -22,7 +22,7 @@ use Rattle.layout.specs.declared.Layout.{Layout}
 use Rattle.layout.specs.declared.DefinitionRow.{DefinitionRow}
 use Rattle.layout.specs.Rows.{IsDefinitionRow}
 use Rattle.layout.specs.Open.{Open, Stored, DefinitionStands, pool-words}
-use Rattle.stored.specs.Heads.{head, tail}
+use Rattle.reading.specs.Heads.{head, tail}
 use Rattle.lookups.specs.declared.generic.Alias.{Alias}
 use Rattle.lookups.specs.Aliases.{is-generic, IsAlias, alias-of}
 use Rattle.lookups.specs.Names.{there, past}

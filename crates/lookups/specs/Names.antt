@@ -85,18 +85,18 @@ pub maybe-none : (names : ℕ) (m : MaybeType) (o : Option ResolvedType) → May
 maybe-none names m none h e = refl
 maybe-none names m (some t) h e = absurd (true-false (sym (h .0) ∙ e))
 
-module _ (s : CompiledSchema) where
-  -- poison is the definition NONE
-  pub named-is : (o : Option ℕ) → named-or-poison s o ≡ ResolvedType.named (or o NONE)
-  unfolding named-or-poison or
-  named-is none = refl
-  named-is (some n) = refl
+-- poison is the definition NONE
+pub named-is : (o : Option ℕ) → named-or-poison o ≡ ResolvedType.named (or o NONE)
+unfolding named-or-poison or
+named-is none = refl
+named-is (some n) = refl
 
+module _ (s : CompiledSchema) where
   -- a name, by the first of the three that is there
   module _ (ps : List (Param ResolvedType)) (x : ℕ) where
-    choose : {p q : Option ResolvedType} → find-param x ps ≡ p → lookup-primitive-alias s x ≡ q → resolve-name s ps x ≡ or (or-else p q) (named-or-poison s (lookup s x))
+    choose : {p q : Option ResolvedType} → find-param x ps ≡ p → lookup-primitive-alias s x ≡ q → resolve-name s ps x ≡ or (or-else p q) (named-or-poison (lookup s x))
     unfolding resolve-name
-    choose e f = ap₂ (λ (p q : Option ResolvedType). or (or-else p q) (named-or-poison s (lookup s x))) e f
+    choose e f = ap₂ (λ (p q : Option ResolvedType). or (or-else p q) (named-or-poison (lookup s x))) e f
 
     pub by-param : (t : ResolvedType) → find-param x ps ≡ some t → resolve-name s ps x ≡ t
     unfolding or or-else
@@ -145,9 +145,9 @@ qualified-at {image} {l} {s} cut o q x i j row e =
 
 -- and its type, by that row
 pub qualified-none : {image : List ℕ} {l : Layout} {s : CompiledSchema} → Open image l s → (q x row : ℕ) → lookup-qualified s q x ≡ lookup s row → row ≡ NONE
-    → named-or-poison s (lookup-qualified s q x) ≡ POISON
+    → named-or-poison (lookup-qualified s q x) ≡ POISON
 unfolding or
-qualified-none {s = s} o q x row e z = named-is s (lookup-qualified s q x) ∙ ap (λ (n : Option ℕ). ResolvedType.named (or n NONE)) (e ∙ ap (lookup s) z ∙ no-name o)
+qualified-none {s = s} o q x row e z = named-is (lookup-qualified s q x) ∙ ap (λ (n : Option ℕ). ResolvedType.named (or n NONE)) (e ∙ ap (lookup s) z ∙ no-name o)
 
-pub qualified-some : (s : CompiledSchema) (q x row d : ℕ) → lookup-qualified s q x ≡ lookup s row → d ≡ or (lookup s row) NONE → named-or-poison s (lookup-qualified s q x) ≡ ResolvedType.named d
-qualified-some s q x row d e g = named-is s (lookup-qualified s q x) ∙ ap (λ (n : Option ℕ). ResolvedType.named (or n NONE)) e ∙ ap ResolvedType.named (sym g)
+pub qualified-some : (s : CompiledSchema) (q x row d : ℕ) → lookup-qualified s q x ≡ lookup s row → d ≡ or (lookup s row) NONE → named-or-poison (lookup-qualified s q x) ≡ ResolvedType.named d
+qualified-some s q x row d e g = named-is (lookup-qualified s q x) ∙ ap (λ (n : Option ℕ). ResolvedType.named (or n NONE)) e ∙ ap ResolvedType.named (sym g)

@@ -89,7 +89,7 @@ pub fn resolve_name(image: &[u8], l: Layout, params: &[u32], x: NameId) -> HeldT
 // The definition or the Named alias of the name with the text namespace, ".", name; else poison.
 pub fn resolve_qualified(image: &[u8], l: Layout, namespace: NameId, x: NameId) -> HeldType
     requires { ⌜ Cut (now image) l ⌝ }
-    ensures { λ r. ⌜ ((s : CompiledSchema) → Open (now (image .entry)) l s → namespace .0 < l .names .rows → x .0 < l .names .rows → Holds (l .names .rows) r (named-or-poison s (lookup-qualified s (namespace .0) (x .0)))) ⌝ }
+    ensures { λ r. ⌜ ((s : CompiledSchema) → Open (now (image .entry)) l s → namespace .0 < l .names .rows → x .0 < l .names .rows → Holds (l .names .rows) r (named-or-poison (lookup-qualified s (namespace .0) (x .0)))) ⌝ }
 {
     let names = l.names;
     let words = names.words;

@@ -11,7 +11,7 @@ use Rattle.laws.specs.Runs.{expr-words, nesting}
 use Rattle.rules.proofs.Codes.{literal-kind}
 use Rattle.reading.specs.Stands.{Stands}
 use Rattle.pool_bodies.specs.ExprAt.{value-shape}
-use Rattle.stored.specs.Heads.{head, tail, inside, first, second}
+use Rattle.reading.specs.Heads.{head, tail, inside, first, second}
 use Rattle.places.specs.Stood.{Stood}
 
 -- a property of the expressions of a kind

@@ -7,10 +7,10 @@ use native.Mathlib.Omega.{arith}
 use lib.Dec.{eqb}
 use borrow.Author.Tests.{eqb-true, eqb-false}
 use Rattle.rules.specs.Words.{all-different}
-use Rattle.rules.specs.Syntax.{ImplFnDef, TraitReturn, TraitFnDef, MessageDef, GenericAliasDef, TraitDef, ImplDef}
-use Rattle.rules.specs.ReadDefinitions.{message, generic-alias, trait-return, trait-function, trait, impl-function, implementation}
-use Rattle.laws.specs.DefinitionRuns.{message-words, generic-alias-words, trait-function-words, trait-words, impl-function-words, implementation-words, GoodMessage, GoodAlias, GoodTraitFunction, GoodTrait, GoodFunction, GoodImpl}
-use Rattle.laws.specs.Definitions.{message-exact, generic-alias-exact, trait-function-exact, trait-exact, impl-function-exact, implementation-exact}
+use Rattle.rules.specs.Syntax.{ImplFnDef, TraitReturn, TraitFnDef, MessageDef, TraitDef, ImplDef}
+use Rattle.rules.specs.ReadDefinitions.{message, trait-return, trait-function, trait, impl-function, implementation}
+use Rattle.laws.specs.DefinitionRuns.{message-words, trait-function-words, trait-words, impl-function-words, implementation-words, GoodMessage, GoodTraitFunction, GoodTrait, GoodFunction, GoodImpl}
+use Rattle.laws.specs.Definitions.{message-exact, trait-function-exact, trait-exact, impl-function-exact, implementation-exact}
 use Rattle.reading.specs.Gives.{Gives, Word, Below-at, Counted, Maybe-at, then, given, rule-then, word-then, below-then, below-gives, many-gives, maybe-gives, either}
 use Rattle.reading.specs.Stands.{Held, held-gives}
 use Rattle.pool_types.specs.TypeAt.{Type-stands, type-gives}
@@ -22,11 +22,6 @@ use Rattle.pool_bodies.specs.StatementAt.{Body-stands, body-gives}
 module _ (names : ℕ) (ws : List ℕ) where
   pub record Message-at (m : MessageDef) (at n : ℕ) : Type 0 where
     pub fields-at : Counted ws 256 (Param-at names ws (Type-stands names ws)) (m .fields) at n
-
-  pub record Alias-at (a : GenericAliasDef) (at n : ℕ) : Type 0 where
-    pub type-params-end : ℕ
-    pub type-params-at : Counted ws 8 (Below-at ws names) (a .type-params) at type-params-end
-    pub target-at : Type-expr-stands names ws (a .target-type) type-params-end n
 
   abbrev pub Trait-return-at : TraitReturn → ℕ → ℕ → Type 0
   Trait-return-at TraitReturn.no-return at n = Word ws at 0 × (n ≡ at + 1)
@@ -40,15 +35,12 @@ module _ (names : ℕ) (ws : List ℕ) where
     pub params-at : Counted ws 32 (Param-at names ws (Type-expr-stands names ws)) (f .params) (at + 1) params-end
     pub return-at : Trait-return-at (f .return-type) params-end n
 
-  -- a function, a message, an alias as the pool holds it
+  -- a function, a message as the pool holds it
   abbrev pub Trait-function-stands : TraitFnDef → ℕ → ℕ → Type 0
   Trait-function-stands = Held Trait-function-at trait-function-words (GoodTraitFunction names) ws
 
   abbrev pub Message-stands : MessageDef → ℕ → ℕ → Type 0
   Message-stands = Held Message-at message-words (GoodMessage names) ws
-
-  abbrev pub Alias-stands : GenericAliasDef → ℕ → ℕ → Type 0
-  Alias-stands = Held Alias-at generic-alias-words (GoodAlias names) ws
 
   pub record Trait-at (t : TraitDef) (at n : ℕ) : Type 0 where
     pub name-at : Word ws at (t .name)
@@ -65,12 +57,6 @@ module _ (names : ℕ) (ws : List ℕ) where
   unfolding message
   message-gives at = held-gives Message-at (message-exact names) ws at
       (then (many-gives _ (param-gives names ws (Type-stands names ws) (type-gives names ws)) 256 at) (λ fs n h. given _ (record { fields-at = h })))
-
-  pub generic-alias-gives : (at : ℕ) → Gives (generic-alias names) ws at (λ a n. Alias-stands a at n)
-  unfolding generic-alias
-  generic-alias-gives at = held-gives Alias-at (generic-alias-exact names) ws at
-      (then (many-gives (Below-at ws names) (below-gives names ws) 8 at) (λ ps m h. then (type-expr-gives names ws m) (λ t n i.
-      given _ (record { type-params-end = m; type-params-at = h; target-at = i }))))
 
   return-gives : (at : ℕ) → Gives (trait-return names) ws at (λ r n. Trait-return-at r at n)
   unfolding trait-return

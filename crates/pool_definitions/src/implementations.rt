@@ -1,4 +1,6 @@
 // Implementations in the pool.
+use pool_lists::Form;
+use pool_lists::Item;
 use reading::Checked;
 use reading::Section;
 ghost use Rattle.rules.specs.Reader.{many};
@@ -21,7 +23,7 @@ pub fn check_impl_function(
         return a;
     }
     let n = a.next;
-    let p = pool_types::resolved::check_params(image, pool, n, names, 32);
+    let p = pool_lists::check_items(Item::Named(Form::Resolved), image, pool, n, names, 32);
     if !p.ok {
         return p;
     }
@@ -89,7 +91,7 @@ pub fn check_implementation(
         return t;
     }
     let n = t.next;
-    let g = pool_types::resolved::check_types(image, pool, n, names, 8);
+    let g = pool_lists::check_items(Item::Type, image, pool, n, names, 8);
     if !g.ok {
         return g;
     }

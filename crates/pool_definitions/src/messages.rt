@@ -1,4 +1,6 @@
 // Messages and generic aliases in the pool.
+use pool_lists::Form;
+use pool_lists::Item;
 use reading::Checked;
 use reading::Section;
 ghost use Rattle.rules.specs.ReadDefinitions.{message, generic-alias};
@@ -9,7 +11,7 @@ pub fn check_message(image: &[u8], pool: Section, at: usize, names: u32) -> Chec
     requires { ⌜ Lies (now image) pool ⌝ }
     ensures { λ r. ⌜ Says (message names) (section-words (now (image .entry)) pool) at r ⌝ }
 {
-    pool_types::resolved::check_params(image, pool, at, names, 256)
+    pool_lists::check_items(Item::Named(Form::Resolved), image, pool, at, names, 256)
 }
 
 // At most 8 type parameters, and the target type.

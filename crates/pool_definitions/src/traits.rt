@@ -1,4 +1,6 @@
 // Traits in the pool.
+use pool_lists::Form;
+use pool_lists::Item;
 use reading::Checked;
 use reading::Section;
 use rules::ids::NameId;
@@ -38,7 +40,7 @@ pub fn check_trait_function(image: &[u8], pool: Section, at: usize, names: u32) 
         return a;
     }
     let n = a.next;
-    let p = pool_type_exprs::check_expr_params(image, pool, n, names, 32);
+    let p = pool_lists::check_items(Item::Named(Form::Expression), image, pool, n, names, 32);
     if !p.ok {
         return p;
     }

@@ -1,9 +1,9 @@
-// Whether a type expression stands in the pool, as the rules read it, alone and with a name before it.
+// Whether a type expression stands in the pool, as the rules read it.
 use reading::Checked;
 use reading::Section;
 use rules::kinds::TypeKind;
-ghost use Rattle.rules.specs.Reader.{fail, many};
-ghost use Rattle.rules.specs.ReadTypes.{type-expr-node, type-expr-tree, type-expr, param};
+ghost use Rattle.rules.specs.Reader.{fail};
+ghost use Rattle.rules.specs.ReadTypes.{type-expr-node, type-expr-tree, type-expr};
 ghost use Rattle.rules.specs.declared.kinds.TypeKind.the-variants.{Qualified};
 ghost use Rattle.reading.specs.Verdict.{section-words, Lies, Says, After};
 
@@ -99,40 +99,4 @@ pub fn check_type_expr(image: &[u8], pool: Section, at: usize, names: u32) -> Ch
         return c;
     }
     Checked { ok: false, next: 0 }
-}
-
-// A name and its type expression.
-pub fn check_expr_param(image: &[u8], pool: Section, at: usize, names: u32) -> Checked
-    requires { ⌜ Lies (now image) pool ⌝ }
-    ensures { λ r. ⌜ Says (param names (type-expr names)) (section-words (now (image .entry)) pool) at r ⌝ }
-{
-    let a = reading::check_below(image, pool, at, names);
-    if !a.ok {
-        return a;
-    }
-    let n = a.next;
-    check_type_expr(image, pool, n, names)
-}
-
-// A count, at most `most`, and so many names with their type expressions.
-pub fn check_expr_params(image: &[u8], pool: Section, at: usize, names: u32, most: u32) -> Checked
-    requires { ⌜ Lies (now image) pool ⌝ }
-    ensures { λ r. ⌜ Says (many most (param names (type-expr names))) (section-words (now (image .entry)) pool) at r ⌝ }
-{
-    let n = reading::check_count(image, pool, at, most);
-    if !n.ok {
-        return n;
-    }
-    let count = reading::section_word(image, pool, at);
-    let mut i = 0;
-    let mut next = n.next;
-    while i < count {
-        let a = check_expr_param(image, pool, next, names);
-        if !a.ok {
-            return a;
-        }
-        next = a.next;
-        i += 1;
-    }
-    Checked { ok: true, next }
 }

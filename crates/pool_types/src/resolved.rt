@@ -1,9 +1,9 @@
-// Resolved types in the pool, alone and with names before them.
+// Resolved types in the pool.
 use reading::Checked;
 use reading::Section;
 use rules::kinds::TypeKind;
-ghost use Rattle.rules.specs.Reader.{many, maybe};
-ghost use Rattle.rules.specs.ReadTypes.{type-tree, resolved-type, param};
+ghost use Rattle.rules.specs.Reader.{maybe};
+ghost use Rattle.rules.specs.ReadTypes.{type-tree, resolved-type};
 ghost use Rattle.reading.specs.Verdict.{section-words, Lies, Says, After};
 
 // A resolved type, at most `depth` deep, behind what h found.
@@ -77,63 +77,4 @@ pub fn check_maybe_type(image: &[u8], pool: Section, at: usize, names: u32) -> C
     }
     let n = f.next;
     check_type(image, pool, n, names)
-}
-
-// A name and its type.
-pub fn check_param(image: &[u8], pool: Section, at: usize, names: u32) -> Checked
-    requires { ⌜ Lies (now image) pool ⌝ }
-    ensures { λ r. ⌜ Says (param names (resolved-type names)) (section-words (now (image .entry)) pool) at r ⌝ }
-{
-    let a = reading::check_below(image, pool, at, names);
-    if !a.ok {
-        return a;
-    }
-    let n = a.next;
-    check_type(image, pool, n, names)
-}
-
-// A count, at most `most`, and so many names with their types: fields, parameters.
-pub fn check_params(image: &[u8], pool: Section, at: usize, names: u32, most: u32) -> Checked
-    requires { ⌜ Lies (now image) pool ⌝ }
-    ensures { λ r. ⌜ Says (many most (param names (resolved-type names))) (section-words (now (image .entry)) pool) at r ⌝ }
-{
-    let n = reading::check_count(image, pool, at, most);
-    if !n.ok {
-        return n;
-    }
-    let count = reading::section_word(image, pool, at);
-    let mut i = 0;
-    let mut next = n.next;
-    while i < count {
-        let a = check_param(image, pool, next, names);
-        if !a.ok {
-            return a;
-        }
-        next = a.next;
-        i += 1;
-    }
-    Checked { ok: true, next }
-}
-
-// A count, at most `most`, and so many resolved types: an implementation's type arguments.
-pub fn check_types(image: &[u8], pool: Section, at: usize, names: u32, most: u32) -> Checked
-    requires { ⌜ Lies (now image) pool ⌝ }
-    ensures { λ r. ⌜ Says (many most (resolved-type names)) (section-words (now (image .entry)) pool) at r ⌝ }
-{
-    let n = reading::check_count(image, pool, at, most);
-    if !n.ok {
-        return n;
-    }
-    let count = reading::section_word(image, pool, at);
-    let mut i = 0;
-    let mut next = n.next;
-    while i < count {
-        let a = check_type(image, pool, next, names);
-        if !a.ok {
-            return a;
-        }
-        next = a.next;
-        i += 1;
-    }
-    Checked { ok: true, next }
 }

@@ -56,7 +56,7 @@ module _ (call : CompiledSchema → Result (ℕ × List ℕ)) (image output deta
 
       by-room : Dec (576 ≤ length detail) → answered call image output detail ≡ refused (refusal (r .number)) output detail
       by-room (yes h) = by-reading h (readable image) refl
-      by-room (no h) = short (omega arith) ∙ same (f .short (omega arith))
+      by-room (no h) = short (omega arith) ∙ same (f .short (omega arith) .0)
 
 -- neither 1 nor 2: there is room, and the layout opens the schema
 pub record Goes (image : List ℕ) (room : ℕ) (r : Front) : Type 0 where
@@ -74,4 +74,4 @@ goes {image} {room} {r} f z = by-room (decLe 576 room)
 
     by-room : Dec (576 ≤ room) → Goes image room r
     by-room (yes h) = by-reading h (readable image) refl
-    by-room (no h) = absurd (omega (arith, f .short (omega arith)))
+    by-room (no h) = absurd (omega (arith, f .short (omega arith) .0))

@@ -22,7 +22,7 @@ pub fn answer(
         return answers::answer::alone(f.number);
     }
     let l = f.layout;
-    calls::readable(call, image, l, number, output, detail)
+    calls::answer_readable(call, image, l, number, output, detail)
 }
 
 // The signatures that an implementation's trait asks for.

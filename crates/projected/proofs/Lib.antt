@@ -2,7 +2,6 @@
 pub mod Resolved
 pub mod StepLaws
 pub mod TypeArgs
-pub mod Passing
 pub mod Entering
 pub mod OneFunction
 pub mod ListTurns

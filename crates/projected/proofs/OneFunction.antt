@@ -29,7 +29,7 @@ use Rattle.projected.specs.declared.parts.Parts.{Parts}
 use Rattle.projected.specs.Steps.{one-words}
 use Rattle.projected.specs.Asked.{Stand, One}
 use Rattle.projected.proofs.StepLaws.{found-name, context, one-missing, one-refused, one-goes}
-use Rattle.projected.proofs.Passing.{not-passed, was-passed}
+use Rattle.outcomes.specs.Passing.{not-passed, was-passed}
 use Rattle.projected.proofs.Entering.{same-name}
 
 module _ {image : List ℕ} {l : Layout} {params : List ℕ} {at : ℕ} (k : One image l params at) (impl : ImplDef) (message : MessageDef)

@@ -21,7 +21,7 @@ pub fn functions_start(image: &[u8], l: Layout, at: usize) -> usize
     ensures { λ r. ⌜ ((ts : List ResolvedType) (n : ℕ) → Counted (pool-words (now (image .entry)) l) 8 (Type-stands (l .names .rows) (pool-words (now (image .entry)) l)) ts at n → r ≡ n) ⌝ }
 {
     let pool = l.pool;
-    let names = l.names;
-    let c = pool_types::resolved::check_types(image, pool, at, names.rows, 8);
-    c.next
+    let count = reading::section_word(image, pool, at);
+    let place = fields::after(pool, at);
+    skip_types::skip_types(image, pool, place, count)
 }

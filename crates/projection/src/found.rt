@@ -12,7 +12,8 @@ ghost use Rattle.projection.specs.Steps.{tested-words, found-words};
 ghost use Rattle.projected.specs.Asked.{Behind};
 ghost use Rattle.projection.specs.Asked.{Wanted, Few};
 
-// 9, then 10, then each function: the trait at `start` with the type arguments at `types`, whose signatures keep the bounds. One walk finds the places of the functions, for all three.
+// 9, then 10, then each function: of the trait at `start` with the type arguments at `types`, whose signatures are accepted.
+// One walk finds the places of the functions, for all three.
 fn project_tested(
     image: &[u8],
     l: Layout,

@@ -2,5 +2,5 @@
 use calls::Call;
 
 fn main() {
-    one::run(Call::Projection);
+    asking::call::run(Call::Projection);
 }

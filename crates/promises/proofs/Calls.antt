@@ -13,13 +13,13 @@ use Rattle.rules.specs.Answer.{project-answer, refused, accepted, too-short}
 use Rattle.rules.specs.Edges.{whole-image}
 use Rattle.answers.specs.Answers.{answer-of}
 use Rattle.promises.specs.Written.{written, Together}
-use Rattle.promises.specs.Calls.{Call, Projected, wrote, CallsSameBodies, NoCallBeginsAnother, CallsTogether, OneAnswer, WholeCase}
+use Rattle.promises.specs.Calls.{Made, Projected, wrote, CallsSameBodies, NoCallBeginsAnother, CallsTogether, OneAnswer, WholeCase}
 use Rattle.promises.proofs.Promises.{same-bytes-same-bodies, no-answer-begins-another, answers-together}
 
-abbrev of-rules : Call → rules.Answer
+abbrev of-rules : Made → rules.Answer
 of-rules c = project-answer (c .image) (c .row) (c .output-before) (c .detail-before)
 
-module _ (c : Call) (p : Projected c) where
+module _ (c : Made) (p : Projected c) where
   is-zero : c .answer .number ≡ 0 → of-rules c .number ≡ 0
   unfolding answer-of
   is-zero e = ap (λ (a : rules.Answer). a .number) (sym p) ∙ e

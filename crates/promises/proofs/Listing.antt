@@ -20,7 +20,7 @@ use Rattle.laws_answers.specs.Ends.{Ends, Any}
 use Rattle.laws_answers.specs.Erased.{any-ends}
 use Rattle.laws_answers.specs.ErasedBodies.{Comes, project-erased}
 use Rattle.promises.specs.Bare.{SameFunction, SameBodies}
-use Rattle.promises.proofs.Results.{ensured, found}
+use Rattle.promises.proofs.Results.{ensured}
 use Rattle.promises.proofs.Parts.{parts}
 
 -- typed functions have the names that were expected, in that order

@@ -19,7 +19,7 @@ use Rattle.promises.specs.Projects.{Bytes}
 use Rattle.promises.specs.Written.{Together}
 
 -- a call: its image and row, the two buffers lent to it, its answer, and the buffers after it
-pub record Call : Type 0 where
+pub record Made : Type 0 where
   pub image : List ℕ
   pub row : ℕ
   pub output-before : List ℕ
@@ -29,41 +29,41 @@ pub record Call : Type 0 where
   pub detail : List ℕ
 
 -- what `portable::project_impl` ensures of a call, on every input
-abbrev pub Projected : Call → Type 0
+abbrev pub Projected : Made → Type 0
 Projected c = answer-of (c .answer) (c .output) (c .detail) ≡ project-answer (c .image) (c .row) (c .output-before) (c .detail-before)
 
 -- the bytes that an accepted call wrote
-abbrev pub wrote : Call → List ℕ
+abbrev pub wrote : Made → List ℕ
 wrote c = take (c .answer .length) (c .output)
 
 -- 1. Two accepted calls on one image that wrote the same bytes, into outputs of any lengths, had the same bodies before them
 abbrev pub CallsSameBodies : Type 0
 CallsSameBodies =
-    (c d : Call) → Projected c → Projected d → c .image ≡ d .image → Bytes (c .image) → c .answer .number ≡ 0 → d .answer .number ≡ 0 → wrote c ≡ wrote d
+    (c d : Made) → Projected c → Projected d → c .image ≡ d .image → Bytes (c .image) → c .answer .number ≡ 0 → d .answer .number ≡ 0 → wrote c ≡ wrote d
     → (schema : CompiledSchema) (i j : ImplDef) → readable (c .image) ≡ some schema → find-implementation schema (c .row) ≡ ok i → find-implementation schema (d .row) ≡ ok j
     → SameBodies i j
 
 -- 2. Of two accepted calls on any images, neither wrote the beginning alone of what the other wrote
 abbrev pub NoCallBeginsAnother : Type 0
 NoCallBeginsAnother =
-    (c d : Call) → Projected c → Projected d → Bytes (c .image) → Bytes (d .image) → c .answer .number ≡ 0 → d .answer .number ≡ 0
+    (c d : Made) → Projected c → Projected d → Bytes (c .image) → Bytes (d .image) → c .answer .number ≡ 0 → d .answer .number ≡ 0
     → (rest : List ℕ) → wrote c ++ rest ≡ wrote d → wrote c ≡ wrote d
 
 -- 3. Two calls on one image with equal room, for implementations that list the same functions in any order, are accepted together
 abbrev pub CallsTogether : Type 0
 CallsTogether =
-    (c d : Call) → Projected c → Projected d → c .image ≡ d .image → length (c .output-before) ≡ length (d .output-before) → length (c .detail-before) ≡ length (d .detail-before)
+    (c d : Made) → Projected c → Projected d → c .image ≡ d .image → length (c .output-before) ≡ length (d .output-before) → length (c .detail-before) ≡ length (d .detail-before)
     → (schema : CompiledSchema) (i j : ImplDef) → readable (c .image) ≡ some schema → find-implementation schema (c .row) ≡ ok i → find-implementation schema (d .row) ≡ ok j
     → Relisted i j → Together (answer-of (c .answer) (c .output) (c .detail)) (answer-of (d .answer) (d .output) (d .detail))
 
 -- Two calls with the same question give the same answer, and leave the same in both buffers
 abbrev pub OneAnswer : Type 0
 OneAnswer =
-    (c d : Call) → Projected c → Projected d → c .image ≡ d .image → c .row ≡ d .row → c .output-before ≡ d .output-before → c .detail-before ≡ d .detail-before
+    (c d : Made) → Projected c → Projected d → c .image ≡ d .image → c .row ≡ d .row → c .output-before ≡ d .output-before → c .detail-before ≡ d .detail-before
     → answer-of (c .answer) (c .output) (c .detail) ≡ answer-of (d .answer) (d .output) (d .detail)
 
 -- 01's whole case, the one P case that is an image: what the call answers of it, given room
-pub record AnswersWhole (c : Call) : Type 0 where
+pub record AnswersWhole (c : Made) : Type 0 where
   pub number : c .answer .number ≡ 0
   pub function : c .answer .function .0 ≡ NONE
   pub second : c .answer .second .0 ≡ NONE
@@ -73,4 +73,4 @@ pub record AnswersWhole (c : Call) : Type 0 where
   pub detail : c .detail ≡ c .detail-before
 
 abbrev pub WholeCase : Type 0
-WholeCase = (c : Call) → Projected c → c .image ≡ whole-image → c .row ≡ 2 → 48 ≤ length (c .output-before) → 576 ≤ length (c .detail-before) → AnswersWhole c
+WholeCase = (c : Made) → Projected c → c .image ≡ whole-image → c .row ≡ 2 → 48 ≤ length (c .output-before) → 576 ≤ length (c .detail-before) → AnswersWhole c

@@ -5,4 +5,5 @@ pub mod Gives
 pub mod Says
 pub mod Loops
 pub mod Stands
+pub mod Heads
 pub mod Trees

@@ -1,10 +1,9 @@
 -- A reader that reads exactly some words gives what stands there and is good.
-use Prim.Native.Nat.{ℕ, _+_, _-_, _≤_}
+use Prim.Native.Nat.{ℕ, _+_}
 use mathlib.Core.Path.{_≡_, refl, sym, ap, _∙_}
 use mathlib.Core.List.{List, _++_}
 use mathlib.Core.Option.{Option, none, some}
-use native.Mathlib.Omega.{arith}
-use lib.ListN.{length, drop, length-append, length-drop}
+use lib.ListN.{length, drop}
 use lib.Seq.{drop-drop, drop-at}
 use Rattle.rules.specs.Reader.{Rest, rest-at, Reader}
 use Rattle.rules.proofs.Exact as exact
@@ -15,12 +14,6 @@ use Rattle.reading.specs.Gives.{Yields, Gives, so-then, both}
 pub record Stands (ws run : List ℕ) (at n : ℕ) : Type 0 where
   pub left : drop at ws ≡ run ++ drop n ws
   pub next : n ≡ at + length run
-
--- they end inside
-pub stands-inside : (ws run : List ℕ) (at n : ℕ) → Stands ws run at n → at ≤ length ws → n ≤ length ws
-stands-inside ws run at n s i =
-    let l : length ws - at ≡ length run + (length ws - n) = sym (length-drop at ws) ∙ ap length (s .left) ∙ length-append run (drop n ws) ∙ ap (λ (k : ℕ). length run + k) (length-drop n ws) in
-    omega (arith, s .next)
 
 given-y : {A : Type 0} (ws : List ℕ) (P : A → ℕ → Type 0) (o : Option (A × Rest)) → ((a : A) (q : Rest) → o ≡ some (a, q) → (q ≡ rest-at ws (q .at)) × P a (q .at)) → Yields ws P o
 given-y ws P none h = tt
@@ -44,3 +37,10 @@ pub record Held {A : Type 0} (At : A → ℕ → ℕ → Type 0) (words : A → 
 pub held-gives : {A : Type 0} (At : A → ℕ → ℕ → Type 0) {r : Reader A} {words : A → List ℕ} {Good : A → Type 0} → Exact r words Good → (ws : List ℕ) (at : ℕ)
     → Gives r ws at (λ a n. At a at n) → Gives r ws at (λ a n. Held At words Good ws a at n)
 held-gives At e ws at g = so-then (both g (exact-gives e ws at)) (λ a n h. record { parts = h .0; words-at = h .1 .0; good = h .1 .1 })
+
+-- the reader gives what stands there
+pub reads-at : {A : Type 0} {r : Reader A} {words : A → List ℕ} {Good : A → Type 0} → Exact r words Good → {ws : List ℕ} {at n : ℕ} (a : A) → Good a → Stands ws (words a) at n → r (rest-at ws at) ≡ some (a, rest-at ws n)
+reads-at {r = r} e {ws} {at} {n} a g s =
+    ap (λ (l : List ℕ). r (record { at = at; left = l })) (s .left)
+    ∙ e .reads a g .on at (drop n ws)
+    ∙ ap (λ (m : ℕ). some (a, record { at = m; left = drop n ws })) (sym (s .next))

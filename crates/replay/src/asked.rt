@@ -1,9 +1,17 @@
 // A case asked again, and its answer compared.
 use answers::answer::Answer;
-use calls::Call;
 use cases::buffers::holds;
 use cases::case::Case;
-use std::num::wrapping_add_usize;
+use cases::case::MOST_DETAIL;
+use cases::case::MOST_OUTPUT;
+use rules::ids::TypeId;
+ghost use Prim.Native.Nat.{_+_, _≤_};
+ghost use mathlib.Core.Path.{_≡_};
+ghost use lib.ListN.{length};
+ghost use Rattle.answers.specs.Answers.{answer-of};
+ghost use Rattle.calls.specs.Calls.{answer-for};
+ghost use Rattle.cases.specs.Cases.{Askable};
+ghost use Rattle.replay.specs.Replayed.{which-call, part, stored-fields, judged, compared, agrees};
 
 // The calls as the file names them.
 pub const PROJECT_IMPL: u32 = 0;
@@ -25,48 +33,62 @@ pub struct Compared {
 }
 
 impl Compared {
-    pub fn same(self) -> bool {
+    // Whether all of the answer is as stored.
+    pub fn same(self) -> bool
+        ensures { λ r. ⌜ r ≡ agrees self ⌝ }
+    {
         self.fields & self.output & self.detail
     }
 }
 
 // Whether the five stored words are the answer's.
-fn same_fields(file: &[u8], at: usize, a: Answer) -> bool {
+fn same_fields(file: &[u8], at: usize, a: Answer) -> bool
+    requires { ⌜ at ≤ length (now file) ⌝ }
+    ensures { λ r. ⌜ r ≡ stored-fields (now (file .entry)) at a ⌝ }
+{
     let function = a.function;
     let second = a.second;
     (words::word_at(file, at) == a.number)
-        & (words::word_at(file, wrapping_add_usize(at, 4)) == function.0)
-        & (words::word_at(file, wrapping_add_usize(at, 8)) == second.0)
-        & (words::word_at(file, wrapping_add_usize(at, 12)) == a.length)
-        & (words::word_at(file, wrapping_add_usize(at, 16)) == a.visits)
+        & (words::word_at(file, at + 4) == function.0)
+        & (words::word_at(file, at + 8) == second.0)
+        & (words::word_at(file, at + 12) == a.length)
+        & (words::word_at(file, at + 16) == a.visits)
 }
 
-// Which call the file's number is.
-fn which(call: u32) -> Call {
+// The public call that the file's number names.
+fn answer(call: u32, image: &[u8], row: TypeId, output: &mut [u8], detail: &mut [u8]) -> Answer
+    ensures { λ r. ⌜ answer-of r (now (output .exit)) (now (detail .exit)) ≡ answer-for (which-call call) (now (image .entry)) (row .0) (now (output .entry)) (now (detail .entry)) ⌝ }
+{
     if call == PROJECT_IMPL {
-        return Call::Projection;
+        return portable::project_impl(image, row, output, detail);
     }
-    Call::Signatures
+    portable::expected_signatures(image, row, output, detail)
 }
 
 // Asks with the two lent buffers.
-fn ask(file: &[u8], c: Case, output: &mut [u8], detail: &mut [u8]) -> Compared {
+fn ask(file: &[u8], c: Case, output: &mut [u8], detail: &mut [u8]) -> Compared
+    requires { ⌜ (c .fields ≤ length (now file)) × (length (now output) ≤ 65536) × (length (now detail) ≤ 1024) ⌝ }
+    ensures { λ r. ⌜ r ≡ judged (now (file .entry)) c (answer-for (which-call (c .call)) (part (now (file .entry)) (c .image)) (c .row .0) (now (output .entry)) (now (detail .entry))) (length (now (output .entry)) + length (now (detail .entry))) ⌝ }
+{
     let image = cases::case::bytes(file, c.image);
-    let a = portable::answer(which(c.call), image, c.row, output, detail);
+    let a = answer(c.call, image, c.row, output, detail);
     Compared {
         fields: same_fields(file, c.fields, a),
         output: holds(output, cases::case::bytes(file, c.written), OUTPUT_FILL),
         detail: holds(detail, cases::case::bytes(file, c.told), DETAIL_FILL),
         answer: a,
-        bytes: wrapping_add_usize(output.len(), detail.len()),
+        bytes: output.len() + detail.len(),
     }
 }
 
 // Asks the case anew in buffers of its lengths.
-pub fn compare(file: &[u8], c: Case) -> Compared {
-    let mut output = [170u8; 65536];
-    let mut detail = [85u8; 1024];
-    let n = cases::case::least(c.output, 65536);
-    let m = cases::case::least(c.detail, 1024);
+pub fn compare(file: &[u8], c: Case) -> Compared
+    requires { ⌜ Askable (now file) c ⌝ }
+    ensures { λ r. ⌜ r ≡ compared (now (file .entry)) c ⌝ }
+{
+    let mut output = [OUTPUT_FILL; MOST_OUTPUT];
+    let mut detail = [DETAIL_FILL; MOST_DETAIL];
+    let n = c.output;
+    let m = c.detail;
     ask(file, c, &mut output[..n], &mut detail[..m])
 }

@@ -7,8 +7,11 @@ use asked::Compared;
 use cases::case;
 use cases::case::Case;
 use cases::labels;
+ghost use Prim.Native.Nat.{_+_, _<_, _^_};
 ghost use mathlib.Core.Path.{_≡_};
 ghost use lib.ListN.{length};
+ghost use Rattle.cases.specs.Cases.{Askable};
+ghost use Rattle.replay.specs.Replayed.{tallied, counted-of};
 
 // What was compared, and how many cases differ.
 struct Tally {
@@ -18,7 +21,9 @@ struct Tally {
 }
 
 // Nothing yet.
-fn none() -> Tally {
+fn none() -> Tally
+    ensures { λ r. ⌜ (r .cases ≡ 0) × (r .bytes ≡ 0) × (r .differ ≡ 0) ⌝ }
+{
     Tally {
         cases: 0,
         bytes: 0,
@@ -27,17 +32,23 @@ fn none() -> Tally {
 }
 
 // A case counted.
-fn counted(t: Tally, c: Compared) -> Tally {
+fn counted(t: Tally, c: Compared) -> Tally
+    requires { ⌜ (t .cases < 4294967295) × (t .bytes + c .bytes < 2 ^ 64) × (t .differ < 4294967295) ⌝ }
+    ensures { λ r. ⌜ r ≡ tallied t c ⌝ }
+{
     let more = if c.same() { 0 } else { 1 };
     Tally {
-        cases: std::num::wrapping_add_u32(t.cases, 1),
-        bytes: std::num::wrapping_add_usize(t.bytes, c.bytes),
-        differ: std::num::wrapping_add_u32(t.differ, more),
+        cases: t.cases + 1,
+        bytes: t.bytes + c.bytes,
+        differ: t.differ + more,
     }
 }
 
 // One case, compared and told, where it is of the call that is replayed.
-fn one(file: &[u8], label: &[u8], c: Case, call: u32, t: Tally) -> Tally {
+fn one(file: &[u8], label: &[u8], c: Case, call: u32, t: Tally) -> Tally
+    requires { ⌜ Askable (now file) c × (t .cases < 4294967295) × (t .bytes < 2 ^ 63) × (t .differ < 4294967295) ⌝ }
+    ensures { λ r. ⌜ r ≡ counted-of (now (file .entry)) c call t ⌝ }
+{
     if c.call != call {
         return t;
     }

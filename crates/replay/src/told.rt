@@ -1,6 +1,6 @@
 // What the replay writes.
 use crate::asked::Compared;
-use answers::answer::Answer;
+use asking::lines::print_fields;
 use asking::lines::print_number;
 use libc::STDOUT_FILENO;
 
@@ -13,21 +13,12 @@ pub fn unread() {
     text(b"DAMAGED: cases.bin or labels.txt cannot be read, or is too long\n");
 }
 
-// The file ends inside a case or behind the last.
+// The file ends inside a case, or goes on behind the last; or a case lends more than there is room for.
 pub fn damaged(number: u32) {
-    text(b"DAMAGED: the file of cases is not as long as it says, at case ");
+    text(
+        b"DAMAGED: the file of cases is not as long as it says, or lends more than there is room for, at case ",
+    );
     print_number(number, b'\n');
-}
-
-// The five fields that were answered.
-fn fields(a: Answer) {
-    let function = a.function;
-    let second = a.second;
-    print_number(a.number, b' ');
-    print_number(function.0, b' ');
-    print_number(second.0, b' ');
-    print_number(a.length, b' ');
-    print_number(a.visits, b'\n');
 }
 
 // A part's name, where the part is not as stored.
@@ -46,7 +37,7 @@ fn differs(label: &[u8], c: Compared) {
     part(c.detail, b", detail");
     text(b": answered ");
     let a = c.answer;
-    fields(a);
+    print_fields(a);
 }
 
 // Whether a label is that of an edge case that is told by name.

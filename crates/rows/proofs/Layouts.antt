@@ -22,7 +22,7 @@ use Rattle.layout.specs.Rows.{Cut, row-word}
 use Rattle.layout.specs.Readers.{name-row-of, string-row-of, definition-row-of}
 use Rattle.layout.specs.Open.{AliasStands, DefinitionStands, NameStands, pool-words}
 use Rattle.layout.proofs.Words.{row-inside}
-use Rattle.rows.proofs.Rows.{row-at}
+use Rattle.rows.proofs.RowSteps.{row-at}
 use Rattle.rows.proofs.Standing.{NameAt, name-gives, string-gives, DefinitionAt, definition-gives, row-th, there}
 
 module _ (image : List ℕ) (l : Layout) (cut : Cut image l) where

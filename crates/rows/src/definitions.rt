@@ -4,10 +4,10 @@ use rules::ids::TypeId;
 use rules::kinds::DefinitionKind;
 ghost use Prim.Native.Nat.{_<_};
 ghost use Rattle.layout.specs.Rows.{Cut};
-ghost use Rattle.rows.specs.Verdict.{DefinitionSays, DefinitionsSay};
+ghost use Rattle.rows.specs.Verdict.{DefinitionSays};
 
 // A kind, and a body of that kind where the row says.
-fn check_definition_row(image: &[u8], l: Layout, i: TypeId) -> bool
+pub fn check_definition_row(image: &[u8], l: Layout, i: TypeId) -> bool
     requires { ⌜ Cut (now image) l × (i .0 < l .definitions .rows) ⌝ }
     ensures { λ r. ⌜ DefinitionSays (now (image .entry)) l (i .0) r ⌝ }
 {
@@ -42,19 +42,4 @@ fn check_definition_row(image: &[u8], l: Layout, i: TypeId) -> bool
         }
         DefinitionKind::Unknown => false,
     }
-}
-
-pub fn check_definitions(image: &[u8], l: Layout) -> bool
-    requires { ⌜ Cut (now image) l ⌝ }
-    ensures { λ r. ⌜ DefinitionsSay (now (image .entry)) l r ⌝ }
-{
-    let n = l.definitions.rows;
-    let mut i = 0;
-    while i < n {
-        if !check_definition_row(image, l, TypeId(i)) {
-            return false;
-        }
-        i += 1;
-    }
-    true
 }

@@ -1,13 +1,13 @@
-// Name rows: each by itself, and all of them.
+// Name rows.
 use layout::Layout;
 use rules::ids::NameId;
 use rules::ids::TypeId;
 ghost use Prim.Native.Nat.{_<_};
 ghost use Rattle.layout.specs.Rows.{Cut};
-ghost use Rattle.rows.specs.Verdict.{NameSays, NamesSay};
+ghost use Rattle.rows.specs.Verdict.{NameSays};
 
 // A text of 1 to 255 bytes inside the texts, a definition that exists or NONE, an alias's type or NONE.
-fn check_name_row(image: &[u8], l: Layout, i: NameId) -> bool
+pub fn check_name_row(image: &[u8], l: Layout, i: NameId) -> bool
     requires { ⌜ Cut (now image) l × (i .0 < l .names .rows) ⌝ }
     ensures { λ r. ⌜ NameSays (now (image .entry)) l (i .0) r ⌝ }
 {
@@ -26,19 +26,4 @@ fn check_name_row(image: &[u8], l: Layout, i: NameId) -> bool
     let pool = l.pool;
     let a = pool_types::resolved::check_type(image, pool, row.alias as usize, l.names.rows);
     a.ok
-}
-
-pub fn check_names(image: &[u8], l: Layout) -> bool
-    requires { ⌜ Cut (now image) l ⌝ }
-    ensures { λ r. ⌜ NamesSay (now (image .entry)) l r ⌝ }
-{
-    let n = l.names.rows;
-    let mut i = 0;
-    while i < n {
-        if !check_name_row(image, l, NameId(i)) {
-            return false;
-        }
-        i += 1;
-    }
-    true
 }

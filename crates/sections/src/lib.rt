@@ -103,8 +103,7 @@ fn layout_of(t: Trailer, size: usize) -> Layout
     }
 }
 
-// No layout.
-pub fn refused() -> Opened
+pub fn no_layout() -> Opened
     ensures { λ r. ⌜ r ≡ no-layout ⌝ }
 {
     let none = Section { start: 0, len: 0 };
@@ -131,11 +130,11 @@ pub fn read_layout(image: &[u8]) -> Opened
 {
     let size = image.len();
     if !((24 <= size) & (size <= 65536)) {
-        return refused();
+        return no_layout();
     }
     let t = read_trailer(image);
     if !good_trailer(t, size) {
-        return refused();
+        return no_layout();
     }
     Opened {
         ok: true,

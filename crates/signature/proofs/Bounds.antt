@@ -4,7 +4,7 @@ use mathlib.Core.Path.{_≡_, sym, subst}
 use mathlib.Core.List.{List}
 use native.Mathlib.Omega.{arith}
 use Rattle.rules.specs.Syntax.{ResolvedType, TraitReturn, CompiledSchema, Param}
-use Rattle.rules.specs.Signatures.{poisoned-params, resolve-params, resolve-return, resolve-signature}
+use Rattle.rules.specs.Signatures.{poisoned-params, resolve-params, resolve-return}
 use Rattle.rules.specs.Output.{listed, param-words}
 use Rattle.laws.specs.DefinitionRuns.{GoodReturn}
 use Rattle.layout.specs.declared.Layout.{Layout}
@@ -12,9 +12,9 @@ use Rattle.layout.specs.Open.{pool-words}
 use Rattle.pool_definitions.specs.DefinitionAt.{Trait-return-at}
 use Rattle.signature.specs.declared.part.Part.{Part}
 use Rattle.signature.specs.Here.{Params-here, Return-here, Function-here}
-use Rattle.signature.specs.Parts.{normal-words, normal-poisoned, words-of, poisoned-signature}
+use Rattle.signature.specs.Parts.{normal-words, normal-poisoned}
 use Rattle.signature.proofs.Says.{Made}
-use Rattle.signature.proofs.Sizes.{params-small, return-small, signature-small}
+use Rattle.signature.proofs.Sizes.{params-small, return-small}
 
 module _ {image : List ℕ} {l : Layout} {params : List ℕ} {at : ℕ} where
   abbrev pub params-of : Function-here image l params at → Params-here image l params (at + 1)
@@ -45,12 +45,6 @@ module _ {image : List ℕ} {l : Layout} {params : List ℕ} {at : ℕ} where
   params-bound h m =
       let z = params-small (h .schema) (h .seen) (h .tree) .holds (m .v) (m .a) (m .is) in
       (omega (arith, m .so .visits, z .0, h .stands .1), omega (arith, m .so .writes .place, z .1, h .stands .1))
-
-  pub signature-bound : (h : Function-here image l params at) {to : ℕ} {old new : List ℕ} {r : Part}
-      → Made words-of poisoned-signature (resolve-signature (h .schema) (h .seen) (h .tree)) (h .behind) to old new r → (r .visits ≤ 33792) × (r .to ≤ to + 8592)
-  signature-bound h m =
-      let z = signature-small (h .schema) (h .seen) (l .names .rows) (h .tree) (h .stands .good) .holds (m .v) (m .a) (m .is) in
-      (omega (arith, m .so .visits, z .0), omega (arith, m .so .writes .place, z .1))
 
 pub return-bound : (names : ℕ) (schema : CompiledSchema) (ps : List (Param ResolvedType)) (t : TraitReturn) {n to : ℕ} {old new : List ℕ} {r : Part} → GoodReturn names t
     → Made normal-words normal-poisoned (resolve-return schema ps t) n to old new r → (r .visits ≤ 1024) × (r .to ≤ to + 260)

@@ -1,6 +1,5 @@
 // A trait function's return.
 use crate::part::Part;
-use held::types::HeldType;
 use held::types::MaybeType;
 use layout::Layout;
 ghost use Prim.Native.Nat.{ℕ, _≤_};

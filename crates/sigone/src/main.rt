@@ -2,5 +2,5 @@
 use calls::Call;
 
 fn main() {
-    one::run(Call::Signatures);
+    asking::call::run(Call::Signatures);
 }

@@ -13,7 +13,7 @@ use Rattle.rules.specs.declared.kinds.ExprKind.{ExprKind}
 use Rattle.rules.proofs.Clash.{clash}
 use Rattle.laws.specs.Runs.{expr-words}
 use Rattle.pool_bodies.specs.ExprAt.{value-shape}
-use Rattle.stored.specs.Heads.{head}
+use Rattle.reading.specs.Heads.{head}
 use Rattle.places.specs.Stood.{Stood}
 use Rattle.places.specs.Nodes.{node, by-code, field-word, receiver}
 use Rattle.statements.specs.declared.assigns.Assigned.{Assigned}

@@ -1,4 +1,3 @@
 pub mod Held
 pub mod Copies
-pub mod Behind
 pub mod Heads

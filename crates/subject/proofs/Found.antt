@@ -51,11 +51,11 @@ module _ (row : ℕ) (s : CompiledSchema) where
     both f = by-trait f
 
 module _ {image : List ℕ} {l : Layout} {found : Result (ImplDef × TraitDef)} {r : Subject} where
-  pub lacking : {e : Refusal} → found ≡ err e → (r .number ≡ 0 → ⊥) → with-name (r .number) NONE (r .name .0) ≡ e → Finds image l found r
-  lacking q n f = record { is = subst (λ (x : Result (ImplDef × TraitDef)). Agrees image l x r) (sym q) (n, f) }
+  pub lacking : {e : Refusal} → found ≡ err e → (r .number ≡ 0 → ⊥) → with-name (r .number) NONE (r .name .0) ≡ e → (r .start ≡ 0) × (r .target ≡ 0) × (r .types ≡ 0) → Finds image l found r
+  lacking q n f z = record { is = subst (λ (x : Result (ImplDef × TraitDef)). Agrees image l x r) (sym q) (n, f, z .0, z .1, z .2) }
 
-  pub standing : {i : ImplDef} {t : TraitDef} → found ≡ ok (i, t) → r .number ≡ 0 → Stand image l i t r → Finds image l found r
-  standing q z a = record { is = subst (λ (x : Result (ImplDef × TraitDef)). Agrees image l x r) (sym q) (z, a) }
+  pub standing : {i : ImplDef} {t : TraitDef} → found ≡ ok (i, t) → r .number ≡ 0 → r .name .0 ≡ NONE → Stand image l i t r → Finds image l found r
+  standing q z x a = record { is = subst (λ (x : Result (ImplDef × TraitDef)). Agrees image l x r) (sym q) (z, x, a) }
 
 -- the parts of an implementation whose row and whose trait's row were found
 module _ {image : List ℕ} {l : Layout} {f g : row.Found} {x : Option ImplDef} {y : Option TraitDef} (h : Has (Impl-here image l) x f) (t : Has (Trait-here image l) y g) where
@@ -84,7 +84,7 @@ pub record Has-both (image : List ℕ) (l : Layout) (found : Result (ImplDef × 
 
 has-o : (image : List ℕ) (l : Layout) (found : Result (ImplDef × TraitDef)) (r : Subject) → Agrees image l found r → r .number ≡ 0 → Has-both image l found r
 has-o image l (err e) r a z = absurd (a .0 z)
-has-o image l (ok p) r a z = record { impl = p .0; trait = p .1; is = refl; stand = a .1 }
+has-o image l (ok p) r a z = record { impl = p .0; trait = p .1; is = refl; stand = a .2 }
 
 lacks-o : (image : List ℕ) (l : Layout) (found : Result (ImplDef × TraitDef)) (r : Subject) → Agrees image l found r → (r .number ≡ 0 → ⊥) → found ≡ err (with-name (r .number) NONE (r .name .0))
 lacks-o image l (err e) r a n = ap err (sym (a .1))

@@ -35,8 +35,8 @@ module _ (image : List ℕ) (l : Layout) where
     pub functions-at : Counted (pool-words image l) 64 (Function-stands (l .names .rows) (l .strings .rows) (pool-words image l)) (impl .functions) types-end functions-end
 
   abbrev pub Agrees : Result (ImplDef × TraitDef) → Subject → Type 0
-  Agrees (err e) r = (r .number ≡ 0 → ⊥) × (with-name (r .number) NONE (r .name .0) ≡ e)
-  Agrees (ok p) r = (r .number ≡ 0) × Stand (p .0) (p .1) r
+  Agrees (err e) r = (r .number ≡ 0 → ⊥) × (with-name (r .number) NONE (r .name .0) ≡ e) × (r .start ≡ 0) × (r .target ≡ 0) × (r .types ≡ 0)
+  Agrees (ok p) r = (r .number ≡ 0) × (r .name .0 ≡ NONE) × Stand (p .0) (p .1) r
 
   -- r says what the rules find, and where
   pub record Finds (found : Result (ImplDef × TraitDef)) (r : Subject) : Type 0 where

@@ -16,7 +16,7 @@ pub struct Subject {
     pub types: usize,
 }
 
-// 3 where the number is no implementation's row, then 4 where its trait is no trait.
+// 3 where the number is no implementation's row, then 4 where its trait's number is no trait's row.
 pub fn find_subject(image: &[u8], l: Layout, number: TypeId) -> Subject
     requires { ⌜ Inside (now image) l ⌝ }
     ensures { λ r. ⌜ ((s : CompiledSchema) → Open (now (image .entry)) l s → Finds (now (image .entry)) l (subject (number .0) s) r) ⌝ }
@@ -35,9 +35,9 @@ pub fn find_subject(image: &[u8], l: Layout, number: TypeId) -> Subject
     let at = i.start;
     let id = reading::section_word(image, pool, at);
     let t = traits::find::find_trait(image, l, TypeId(id));
-    let behind = fields::after(pool, at);
+    let name_at = fields::after(pool, at);
     if !t.ok {
-        let name = NameId(reading::section_word(image, pool, behind));
+        let name = NameId(reading::section_word(image, pool, name_at));
         return Subject {
             number: 4,
             name,
@@ -46,7 +46,7 @@ pub fn find_subject(image: &[u8], l: Layout, number: TypeId) -> Subject
             types: 0,
         };
     }
-    let target = fields::after(pool, behind);
+    let target = fields::after(pool, name_at);
     Subject {
         number: 0,
         name: NameId::NONE,

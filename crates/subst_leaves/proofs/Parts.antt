@@ -11,7 +11,7 @@ use Rattle.rules.proofs.Good.{GoodExpr}
 use Rattle.rules.proofs.Types.{Stored}
 use Rattle.reading.specs.Stands.{Stands}
 use Rattle.pool_type_exprs.specs.TypeExprAt.{expr-shape}
-use Rattle.stored.specs.Heads.{head, tail, first, second}
+use Rattle.reading.specs.Heads.{head, tail, first, second}
 use Rattle.stored.specs.Held.{Expr-stands}
 
 module _ (names : ℕ) (ws : List ℕ) (at n : ℕ) where

@@ -25,7 +25,7 @@ module _ (image : List ℕ) (l : Layout) (at left : ℕ) where
   Leaves r = (t : ResolvedType) (n : ℕ) → At (TypeExpr.leaf t) n → One-visit n t r
 
   abbrev pub Qualifieds : Resolved → Type 0
-  Qualifieds r = (s : CompiledSchema) → Open image l s → (q x n : ℕ) → At (TypeExpr.qualified q x) n → One-visit n (named-or-poison s (lookup-qualified s q x)) r
+  Qualifieds r = (s : CompiledSchema) → Open image l s → (q x n : ℕ) → At (TypeExpr.qualified q x) n → One-visit n (named-or-poison (lookup-qualified s q x)) r
 
   -- whatever stands there is passed over
   abbrev pub Poisons : Resolved → Type 0

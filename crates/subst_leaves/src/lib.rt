@@ -79,11 +79,9 @@ pub fn poison(image: &[u8], l: Layout, at: usize, left: u32) -> Resolved
     ensures { λ r. ⌜ Keeps left r (Poisons (now (image .entry)) l at left r) ⌝ }
 {
     let pool = l.pool;
-    let names = l.names;
-    let c = pool_type_exprs::check_type_expr(image, pool, at, names.rows);
     Resolved {
         ok: true, // whatever the argument would come to
-        next: c.next,
+        next: skip_types::skip_type(image, pool, at),
         left,
         ty: HeldType::named(TypeId::POISON),
     }

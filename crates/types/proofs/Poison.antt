@@ -1,5 +1,5 @@
 -- Over the run of a type the walk says what the rules say of the type. Assumes nothing.
-use Prim.Native.Nat.{ℕ, _+_}
+use Prim.Native.Nat.{ℕ}
 use native.Mathlib.Omega.{arith}
 use native.Mathlib.Numerals.{add-two}
 use mathlib.Core.Path.{_≡_, refl, sym, ap, _∙_}

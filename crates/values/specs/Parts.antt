@@ -16,7 +16,7 @@ use Rattle.held.specs.declared.types.HeldType.{HeldType}
 use Rattle.held.specs.Runs.{Runs}
 use Rattle.reading.specs.Stands.{Stands}
 use Rattle.pool_bodies.specs.ExprAt.{value-shape}
-use Rattle.stored.specs.Heads.{head, first}
+use Rattle.reading.specs.Heads.{head, first}
 use Rattle.places.specs.Stood.{Stood}
 use Rattle.places.specs.Nodes.{node, by-code}
 use Rattle.foretold.specs.Foretold.{left-type}

@@ -46,12 +46,6 @@ module _ (limit : ℕ) where
   unfolding put
   put-past at w xs h = simp (lt-leb _ _ h)
 
-  -- words past the limit change nothing: with limit 0 no byte is touched
-  pub puts-past : (at : ℕ) (ws xs : List ℕ) → limit < at + 4 → puts limit at ws xs ≡ xs
-  unfolding puts
-  puts-past at [] xs h = refl
-  puts-past at (w ∷ ws) xs h = rw (put-past at w xs h) (puts-past (at + 4) ws xs (omega arith))
-
   -- two runs one after the other are one run
   pub puts-append : (at : ℕ) (vs ws xs : List ℕ) → puts limit at (vs ++ ws) xs ≡ puts limit (at + 4 * length vs) ws (puts limit at vs xs)
   unfolding puts

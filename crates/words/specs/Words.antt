@@ -1,5 +1,5 @@
 -- Little-endian words of a list of bytes, by the rules' definitions of words and of their bytes.
-use mathlib.Core.Path.{_≡_, refl, ap, ap₂, _∙_}
+use mathlib.Core.Path.{_≡_, refl, ap, _∙_}
 use Prim.Native.Nat.{ℕ, zero, suc, _+_, _*_, _/_, _%_, _<_, _≤_, _^_}
 use native.Mathlib.Omega.{arith}
 use native.Mathlib.Nat.{div-div-eq-div-mul, div-add-mod', mod-eq-of-lt, le-trans}
@@ -65,9 +65,3 @@ pub length-bytes-of : (ws : List ℕ) → length (bytes-of ws) ≡ 4 * length ws
 unfolding bytes-of
 length-bytes-of [] = refl
 length-bytes-of (w ∷ ws) = omega (arith, length-bytes-of ws)
-
--- bytes made of words are those words again
-pub words-bytes-of : (ws : List ℕ) → ((i : ℕ) → i < length ws → getD ws i 0 < 2 ^ 32) → words (bytes-of ws) ≡ ws
-unfolding words bytes-of
-words-bytes-of [] h = refl
-words-bytes-of (w ∷ ws) h = ap₂ _∷_ (word4-le w (h 0 (omega arith))) (words-bytes-of ws (λ i k. h (suc i) (omega arith)))

@@ -8,7 +8,7 @@ use lib.ListN.{length}
 use lib.Dec.{lit<}
 use Rattle.rules.specs.Syntax.{Expr}
 use Rattle.rules.specs.Types.{BOOL, STRING}
-use Rattle.rules.specs.Infer.{binary-hint, infer-expr}
+use Rattle.rules.specs.Infer.{infer-expr}
 use Rattle.layout.specs.Open.{pool-words}
 use Rattle.reading.specs.Sections.{length-section}
 use Rattle.inferred.specs.Says.{Says}
@@ -17,7 +17,6 @@ use Rattle.places.specs.Operands.{left-at, right-at, value-at}
 use Rattle.leaves.specs.Plain.{bool-held, string-held}
 use Rattle.exprs.specs.Arms.{of-literal, of-flag, of-text, of-local, of-self-ref, of-field, of-call, of-method, of-binary, of-unary, of-unknown}
 use Rattle.exprs.specs.Operations.{left-refused, right-refused, both-typed, value-refused, value-typed}
-use Prim.Native.Nat.{ℕ, _<_}
 use borrow.Fn.Kinds.{In}
 use borrow.Fn.PlainCycle.{Measures, is, falls, and}
 use Rattle.exprs.proofs.infer_binary.Reads as infer-binary

@@ -16,7 +16,6 @@ use Rattle.places.specs.Operands.{left-at, right-at, value-at}
 use Rattle.leaves.specs.Plain.{bool-held, void-held, string-held}
 use Rattle.foretold.specs.Foretold.{foretold}
 use Rattle.foretold.specs.Arms.{or-some, or-none, told-literal, told-flag, told-text, told-local, told-self-ref, told-field, told-call, told-method, told-binary, told-unary, told-unknown, binary-compares, binary-computes}
-use Prim.Native.Nat.{ℕ, _<_}
 use borrow.Fn.Kinds.{In}
 use borrow.Fn.PlainCycle.{Measures, is, falls, and}
 use Rattle.foretold.proofs.foretell.Reads as foretell

@@ -1,5 +1,4 @@
-use mathlib.Core.Path.{_≡_, sym, ap, _∙_}
-use lib.ListN.{length}
+use mathlib.Core.Path.{sym, ap, _∙_}
 use borrow.Author.Needs.{needs}
 use Rattle.answers.specs.Refusals.{refusal-of}
 use Rattle.outcomes.proofs.Refusals.{of-20, of-21, value-else}

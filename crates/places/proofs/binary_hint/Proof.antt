@@ -1,7 +1,6 @@
 -- `places::binary_hint` meets its contract. Assumes nothing.
 use borrow.Author.Needs.{needs}
 use Rattle.rules.specs.Infer.{expression-hint, binary-hint}
-use mathlib.Core.Option.{none}
 use Rattle.places.specs.Hints.{or-held, or-next, held-if, held-not}
 use Rattle.places.proofs.binary_hint.Statement.{statement}
 use Rattle.places.proofs.binary_hint.Tie as tie

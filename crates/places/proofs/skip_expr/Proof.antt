@@ -3,7 +3,7 @@ use borrow.Author.Needs.{needs}
 use Rattle.laws.specs.Expressions.{tree-exact}
 use Rattle.reading.specs.Gives.{of}
 use Rattle.pool_bodies.specs.ExprAt.{expr-tree-gives}
-use Rattle.stored.specs.Behind.{reads-at}
+use Rattle.reading.specs.Stands.{reads-at}
 use Rattle.places.proofs.skip_expr.Statement.{statement}
 use Rattle.places.proofs.skip_expr.Tie as tie
 

@@ -13,15 +13,15 @@ returns c = let a = c .before .before .before .before .before .before .before .a
     let detail = now (a .detail) in
     c .alone .ensures detail output ∙ sym (answer-is (a .call) (now (a .image)) (a .number .0) output detail ∙ front-refused (call-of (a .call) (a .number .0)) (now (a .image)) output detail (c .before .before .before .look .ensures) (c .before .if1 .taken))
 
-readable-requires : tie.Need-readable-requires
-readable-requires c κs = let g = goes (c .before .before .before .before .before .look .ensures) (c .before .before .before .if1 .left) in (g .cut, record { schema = g .schema; opened = g .opened }, g .room-enough)
+answer-readable-requires : tie.Need-answer-readable-requires
+answer-readable-requires c κs = let g = goes (c .before .before .before .before .before .look .ensures) (c .before .before .before .if1 .left) in (g .cut, record { schema = g .schema; opened = g .opened }, g .room-enough)
 
 returns-2 : tie.Need-returns-2
 returns-2 c = let a = c .before .before .before .before .before .before .before .before .before .before .before .before .before .before .args in
     let output = now (a .output) in
     let detail = now (a .detail) in
     let g = goes (c .before .before .before .before .before .before .before .before .before .before .look .ensures) (c .before .before .before .before .before .before .before .before .if1 .left) in
-    c .before .before .before .before .readable .ensures (g .schema) (g .opened) ∙ sym (answer-is (a .call) (now (a .image)) (a .number .0) output detail ∙ when-readable (call-of (a .call) (a .number .0)) (now (a .image)) output detail (g .room-enough) (g .opened .read))
+    c .before .before .before .before .answer-readable .ensures (g .schema) (g .opened) ∙ sym (answer-is (a .call) (now (a .image)) (a .number .0) output detail ∙ when-readable (call-of (a .call) (a .number .0)) (now (a .image)) output detail (g .room-enough) (g .opened .read))
 
 pub answer-spec : {M : Type 1} → statement M
 answer-spec =
@@ -30,7 +30,7 @@ answer-spec =
     (λ c κs. search needs)
     (λ c κs. search needs)
     returns
-    readable-requires
+    answer-readable-requires
     (λ c. search needs)
     (λ c. search needs)
     returns-2)

@@ -1,74 +1,35 @@
-use Prim.Native.Nat.{_-_, _≤_}
+-- `replay::replay` is safe and ends: a tally counts no more cases than were passed, and no case lends more than both
+-- buffers have. Assumes nothing.
+use Prim.Native.Nat.{_-_, _*_, _≤_}
+use native.Mathlib.Omega.{arith}
+use denote.Ref.{now}
 use lib.ListN.{length}
 use borrow.Author.Needs.{needs}
+use borrow.Author.Tests.{not-false}
+use Rattle.cases.specs.Cases.{ok-askable}
+use Rattle.replay.proofs.Verdicts.{grows}
 use Rattle.replay.proofs.replay.Statement.{statement}
 use Rattle.replay.proofs.replay.Tie as tie
 
 abbrev Inv-loop : tie.InvT-loop
-Inv-loop file names call title count tally₀ at₀ name₀ i₀ tally at name i = (at ≤ length file) × (name ≤ length names)
+Inv-loop file names call title count tally₀ at₀ name₀ i₀ tally at name i = (at ≤ length file) × (name ≤ length names) × (tally .cases ≤ i) × (tally .bytes ≤ 66560 * i) × (tally .differ ≤ i)
 
 abbrev μ-loop : tie.MeasureT-loop
 μ-loop file names call title count tally₀ at₀ name₀ i₀ tally at name i = count - i
 
-word-at-requires : tie.Need-word-at-requires Inv-loop μ-loop
-word-at-requires c κs = search needs
-
-none-requires : tie.Need-none-requires Inv-loop μ-loop
-none-requires c κs = search needs
-
-least-requires : tie.Need-least-requires Inv-loop μ-loop
-least-requires c κs = search needs
-
 loop-holds : tie.Need-loop-holds Inv-loop μ-loop
 loop-holds c = search needs
 
-read-requires : tie.Need-read-requires Inv-loop μ-loop
-read-requires c κs = search needs
-
-damaged-requires : tie.Need-damaged-requires Inv-loop μ-loop
-damaged-requires c κs = search needs
-
-returns : tie.Need-returns Inv-loop μ-loop
-returns c = search needs
-
-end-requires : tie.Need-end-requires Inv-loop μ-loop
-end-requires c κs = search needs
-
-sub-one : tie.Need-sub-one Inv-loop μ-loop
-sub-one c = search needs
-
-part-one-start : tie.Need-part-one-start Inv-loop μ-loop
-part-one-start c = search needs
-
-part-one-end : tie.Need-part-one-end Inv-loop μ-loop
-part-one-end c = search needs
-
 one-requires : tie.Need-one-requires Inv-loop μ-loop
-one-requires c κs = search needs
-
-next-requires : tie.Need-next-requires Inv-loop μ-loop
-next-requires c κs = search needs
-
-add-i : tie.Need-add-i Inv-loop μ-loop
-add-i c = search needs
-
-loop-less : tie.Need-loop-less Inv-loop μ-loop
-loop-less c = search needs
+one-requires c κs = (ok-askable (now (c .before .before .before .before .before .before .before .before .before .before .before .before .before .args .file)) (c .before .before .before .before .before .before .loop .at) (c .before .before .before .before .read .result) (c .before .before .before .before .read .ensures .1) (not-false _ (c .before .before .if1 .left)), omega arith, omega arith, omega arith)
 
 loop-again : tie.Need-loop-again Inv-loop μ-loop
-loop-again c = search needs
-
-damaged-requires-2 : tie.Need-damaged-requires-2 Inv-loop μ-loop
-damaged-requires-2 c κs = search needs
-
-returns-2 : tie.Need-returns-2 Inv-loop μ-loop
-returns-2 c = search needs
-
-tally-requires : tie.Need-tally-requires Inv-loop μ-loop
-tally-requires c κs = search needs
-
-returns-3 : tie.Need-returns-3 Inv-loop μ-loop
-returns-3 c = search needs
+loop-again c =
+    let f = now (c .before .before .before .before .before .before .before .before .before .before .before .before .before .before .before .args .file) in
+    let k = c .before .before .before .before .before .before .read .result in
+    let l = c .before .before .before .before .before .before .before .before .loop in
+    let g = grows f k (c .before .before .before .before .before .before .before .before .before .before .before .before .before .before .before .args .call) (l .tally) (c .before .one .result) (ok-askable f (l .at) k (c .before .before .before .before .before .before .read .ensures .1) (not-false _ (c .before .before .before .before .if1 .left))) (c .before .one .ensures) in
+    (search needs, search needs, omega (arith, g .0), omega (arith, g .1), omega (arith, g .2))
 
 pub replay-spec : {M : Type 1} → statement M
 replay-spec =
@@ -76,23 +37,23 @@ replay-spec =
     (tie.spec
     Inv-loop
     μ-loop
-    word-at-requires
-    none-requires
-    least-requires
+    (λ c κs. search needs)
+    (λ c κs. search needs)
+    (λ c κs. search needs)
     loop-holds
-    read-requires
-    damaged-requires
-    returns
-    end-requires
-    sub-one
-    part-one-start
-    part-one-end
+    (λ c κs. search needs)
+    (λ c κs. search needs)
+    (λ c. search needs)
+    (λ c κs. search needs)
+    (λ c. search needs)
+    (λ c. search needs)
+    (λ c. search needs)
     one-requires
-    next-requires
-    add-i
-    loop-less
+    (λ c κs. search needs)
+    (λ c. search needs)
+    (λ c. search needs)
     loop-again
-    damaged-requires-2
-    returns-2
-    tally-requires
-    returns-3)
+    (λ c κs. search needs)
+    (λ c. search needs)
+    (λ c κs. search needs)
+    (λ c. search needs))

@@ -7,11 +7,11 @@ use borrow.Author.Needs.{needs}
 use Rattle.sections.proofs.read_layout.Statement.{statement}
 use Rattle.sections.proofs.read_layout.Tie as tie
 
-refused-requires : tie.Need-refused-requires
-refused-requires c κs = search needs
+no-layout-requires : tie.Need-no-layout-requires
+no-layout-requires c κs = search needs
 
 returns : tie.Need-returns
-returns c = unsized-read _ (not-true _ (c .before .if1 .taken)) (c .refused .ensures)
+returns c = unsized-read _ (not-true _ (c .before .if1 .taken)) (c .no-layout .ensures)
 
 read-trailer-requires : tie.Need-read-trailer-requires
 read-trailer-requires c κs = bounds _ (not-false _ (c .if1 .left)) .0
@@ -19,11 +19,11 @@ read-trailer-requires c κs = bounds _ (not-false _ (c .if1 .left)) .0
 good-trailer-requires : tie.Need-good-trailer-requires
 good-trailer-requires c κs = bounds _ (not-false _ (c .before .if1 .left)) .0
 
-refused-requires-2 : tie.Need-refused-requires-2
-refused-requires-2 c κs = search needs
+no-layout-requires-2 : tie.Need-no-layout-requires-2
+no-layout-requires-2 c κs = search needs
 
 returns-2 : tie.Need-returns-2
-returns-2 c = bad-read _ _ (c .before .before .before .read-trailer .ensures) (not-false _ (c .before .before .before .before .if1 .left)) (sym (c .before .before .good-trailer .ensures) ∙ not-true _ (c .before .if2 .taken)) (c .refused2 .ensures)
+returns-2 c = bad-read _ _ (c .before .before .before .read-trailer .ensures) (not-false _ (c .before .before .before .before .if1 .left)) (sym (c .before .before .good-trailer .ensures) ∙ not-true _ (c .before .if2 .taken)) (c .no-layout2 .ensures)
 
 layout-of-requires : tie.Need-layout-of-requires
 layout-of-requires c κs = (bounds _ (not-false _ (c .before .before .before .if1 .left)) .0, sym (c .before .good-trailer .ensures) ∙ not-false _ (c .if2 .left))
@@ -35,11 +35,11 @@ pub read-layout-spec : {M : Type 1} → statement M
 read-layout-spec =
     tie.close
     (tie.spec
-    refused-requires
+    no-layout-requires
     returns
     read-trailer-requires
     good-trailer-requires
-    refused-requires-2
+    no-layout-requires-2
     returns-2
     layout-of-requires
     returns-3)

@@ -9,7 +9,7 @@ use Rattle.reading.specs.Stands.{Stands}
 use Rattle.layout.specs.Open.{pool-words}
 use Rattle.held.proofs.Trees.{holds}
 use Rattle.pool_types.specs.TypeAt.{type-gives}
-use Rattle.stored.specs.Behind.{reads-at}
+use Rattle.reading.specs.Stands.{reads-at}
 use Rattle.stored.proofs.hold_type.Statement.{statement}
 use Rattle.stored.proofs.hold_type.Tie as tie
 

@@ -16,7 +16,7 @@ use Rattle.subject.proofs.find_subject.Statement.{statement}
 use Rattle.subject.proofs.find_subject.Tie as tie
 
 returns : tie.Need-returns
-returns c = λ s o. lacking (no-impl (c .before .before .before .before .args .number .0) s (lacks (c .before .before .find-implementation .ensures s o) (not-true _ (c .if1 .taken)))) (λ z. omega arith) refl
+returns c = λ s o. lacking (no-impl (c .before .before .before .before .args .number .0) s (lacks (c .before .before .find-implementation .ensures s o) (not-true _ (c .if1 .taken)))) (λ z. omega arith) refl (refl, refl, refl)
 
 returns-2 : tie.Need-returns-2
 returns-2 c = λ s o.
@@ -24,7 +24,7 @@ returns-2 c = λ s o.
     let h = has (c .before .before .before .before .before .before .before .before .before .find-implementation .ensures s o) (not-false _ (c .before .before .before .before .before .before .before .if1 .left)) in
     let p = h .stands .parts in
     lacking (no-trait (a .number .0) s (h .is) (no-trait-at s (c .before .before .before .before .before .section-word .ensures ∙ p .id-at .is) (c .before .before .before .before .find-trait .ensures s o) (not-true _ (c .before .if2 .taken)))) (λ z. omega arith)
-    (ap (with-name 4 NONE) (c .section-word2 .ensures ∙ ap (λ (k : ℕ). getD (pool-words (now (a .image)) (a .l)) k 0) (c .before .before .before .after .ensures (omega (arith, p .id-at .inside, length-section (o .inside .pool)))) ∙ p .name-at .is))
+    (ap (with-name 4 NONE) (c .section-word2 .ensures ∙ ap (λ (k : ℕ). getD (pool-words (now (a .image)) (a .l)) k 0) (c .before .before .before .after .ensures (omega (arith, p .id-at .inside, length-section (o .inside .pool)))) ∙ p .name-at .is)) (refl, refl, refl)
 
 returns-3 : tie.Need-returns-3
 returns-3 c = λ s o.
@@ -33,7 +33,7 @@ returns-3 c = λ s o.
     let p = h .stands .parts in
     let t = trait-at s (c .before .before .before .before .before .before .section-word .ensures ∙ p .id-at .is) (c .before .before .before .before .before .find-trait .ensures s o) (not-false _ (c .before .before .if2 .left)) in
     let e = c .before .before .before .before .after .ensures (omega (arith, p .id-at .inside, length-section (o .inside .pool))) in
-    standing (both (a .number .0) s (h .is) (t .is)) refl (parts h t refl (c .before .after2 .ensures (omega (arith, e, p .name-at .inside, length-section (o .inside .pool))) ∙ omega (arith, e)) (c .skip-type .ensures .0 _))
+    standing (both (a .number .0) s (h .is) (t .is)) refl refl (parts h t refl (c .before .after2 .ensures (omega (arith, e, p .name-at .inside, length-section (o .inside .pool))) ∙ omega (arith, e)) (c .skip-type .ensures .0 _))
 
 pub find-subject-spec : {M : Type 1} → statement M
 find-subject-spec =

@@ -5,18 +5,21 @@ use borrow.Author.Needs.{needs}
 use Rattle.rules.specs.Types.{POISON}
 use Rattle.laws.specs.TypeExprs.{type-expr-exact}
 use Rattle.held.proofs.Trees.{named-holds}
-use Rattle.stored.specs.Behind.{behind}
+use Rattle.reading.specs.Gives.{of}
+use Rattle.reading.specs.Stands.{reads-at}
+use Rattle.pool_type_exprs.specs.TypeExprAt.{type-expr-gives}
 use Rattle.subst_leaves.proofs.Steps.{one-visit}
 use Rattle.subst_leaves.proofs.poison.Statement.{statement}
 use Rattle.subst_leaves.proofs.poison.Tie as tie
 
 returns : tie.Need-returns
-returns c = let a = c .before .before .before .before .before .args in
+returns c = let a = c .before .before .before .before .args in
+    let names = a .l .names .rows in
     record {
       falls = omega arith;
       means = λ x n e.
-          one-visit (a .l .names .rows) (a .left) n POISON _ refl (behind (type-expr-exact (a .l .names .rows)) x (e .stored) (e .run-at) (c .before .check-type-expr .ensures)) refl
-          (named-holds (a .l .names .rows) (c .named .ensures));
+          one-visit names (a .left) n POISON _ refl (c .before .skip-type .ensures .1 names x n (of (type-expr-gives names _ _) (reads-at (type-expr-exact names) x (e .stored) (e .run-at)) .1 .parts)) refl
+          (named-holds names (c .named .ensures));
     }
 
 pub poison-spec : {M : Type 1} → statement M

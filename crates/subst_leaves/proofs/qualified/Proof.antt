@@ -18,8 +18,8 @@ returns c = let a = c .before .before .before .before .before .args in
           let p = qualified-stands q x e in
           let i : c .before .before .section-word .result ≡ q = c .before .before .section-word .ensures ∙ p .namespace in
           let j : c .before .section-word2 .result ≡ x = c .before .section-word2 .ensures ∙ p .name in
-          one-visit (a .l .names .rows) (a .left) n (named-or-poison s (lookup-qualified s q x)) _ refl (p .next) refl
-          (subst₂ (λ (y z : ℕ). Holds (a .l .names .rows) (c .resolve-qualified .result) (named-or-poison s (lookup-qualified s y z))) i j
+          one-visit (a .l .names .rows) (a .left) n (named-or-poison (lookup-qualified s q x)) _ refl (p .next) refl
+          (subst₂ (λ (y z : ℕ). Holds (a .l .names .rows) (c .resolve-qualified .result) (named-or-poison (lookup-qualified s y z))) i j
           (c .resolve-qualified .ensures s o (omega (arith, i, p .namespace-below)) (omega (arith, j, p .below))));
     }
 

@@ -18,7 +18,6 @@ use Rattle.foretold.specs.Foretold.{left-type}
 use Rattle.foretold.specs.Accepted.{operands-of, value-of}
 use Rattle.values.specs.Writes.{leaf-size}
 use Rattle.values.specs.Parts.{written-value, leaf-of, at-binary, at-unary, binary-head, unary-head, written-binary, written-unary, left-runs, right-runs, value-runs}
-use Prim.Native.Nat.{ℕ, _<_}
 use borrow.Fn.Kinds.{In}
 use borrow.Fn.PlainCycle.{Measures, is, falls, and}
 use Rattle.values.proofs.write_binary.Reads as write-binary

@@ -20,6 +20,6 @@ check-implementation-spec =
     (λ c κs. search needs)
     (λ c. then (c .before .before .before .before .before .before .before .before .check-word .ensures _ (c .before .before .before .before .before .before .before .before .before .before .pre)) (not-false _ (c .before .before .before .before .before .before .if1 .left)) (λ d. then (c .before .before .before .before .before .check-below .ensures) (not-false _ (c .before .before .before .if2 .left)) (λ n. stop _ (c .before .before .check-type .ensures) (not-true _ (c .if3 .taken)))))
     (λ c κs. search needs)
-    (λ c. then (c .before .before .before .before .before .before .before .before .before .before .before .check-word .ensures _ (c .before .before .before .before .before .before .before .before .before .before .before .before .before .pre)) (not-false _ (c .before .before .before .before .before .before .before .before .before .if1 .left)) (λ d. then (c .before .before .before .before .before .before .before .before .check-below .ensures) (not-false _ (c .before .before .before .before .before .before .if2 .left)) (λ n. then (c .before .before .before .before .before .check-type .ensures) (not-false _ (c .before .before .before .if3 .left)) (λ t. stop _ (c .before .before .check-types .ensures) (not-true _ (c .if4 .taken))))))
+    (λ c. then (c .before .before .before .before .before .before .before .before .before .before .before .check-word .ensures _ (c .before .before .before .before .before .before .before .before .before .before .before .before .before .pre)) (not-false _ (c .before .before .before .before .before .before .before .before .before .if1 .left)) (λ d. then (c .before .before .before .before .before .before .before .before .check-below .ensures) (not-false _ (c .before .before .before .before .before .before .if2 .left)) (λ n. then (c .before .before .before .before .before .check-type .ensures) (not-false _ (c .before .before .before .if3 .left)) (λ t. stop _ (c .before .before .check-items .ensures) (not-true _ (c .if4 .taken))))))
     (λ c κs. search needs)
-    (λ c. then (c .before .before .before .before .before .before .before .before .before .before .before .before .check-word .ensures _ (c .before .before .before .before .before .before .before .before .before .before .before .before .before .before .pre)) (not-false _ (c .before .before .before .before .before .before .before .before .before .before .if1 .left)) (λ d. then (c .before .before .before .before .before .before .before .before .before .check-below .ensures) (not-false _ (c .before .before .before .before .before .before .before .if2 .left)) (λ n. then (c .before .before .before .before .before .before .check-type .ensures) (not-false _ (c .before .before .before .before .if3 .left)) (λ t. then (c .before .before .before .check-types .ensures) (not-false _ (c .before .if4 .left)) (λ g. last _ (c .check-impl-functions .ensures)))))))
+    (λ c. then (c .before .before .before .before .before .before .before .before .before .before .before .before .check-word .ensures _ (c .before .before .before .before .before .before .before .before .before .before .before .before .before .before .pre)) (not-false _ (c .before .before .before .before .before .before .before .before .before .before .if1 .left)) (λ d. then (c .before .before .before .before .before .before .before .before .before .check-below .ensures) (not-false _ (c .before .before .before .before .before .before .before .if2 .left)) (λ n. then (c .before .before .before .before .before .before .check-type .ensures) (not-false _ (c .before .before .before .before .if3 .left)) (λ t. then (c .before .before .before .check-items .ensures) (not-false _ (c .before .if4 .left)) (λ g. last _ (c .check-impl-functions .ensures)))))))

@@ -11,4 +11,4 @@ check-message-spec =
     tie.close
     (tie.spec
     (λ c κs. search needs)
-    (λ c. last _ (c .check-params .ensures)))
+    (λ c. last _ (c .check-items .ensures)))

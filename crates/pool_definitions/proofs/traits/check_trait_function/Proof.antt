@@ -14,6 +14,6 @@ check-trait-function-spec =
     (λ c κs. search needs)
     (λ c. stop _ (c .before .before .check-below .ensures) (not-true _ (c .if1 .taken)))
     (λ c κs. search needs)
-    (λ c. then (c .before .before .before .before .before .check-below .ensures) (not-false _ (c .before .before .before .if1 .left)) (λ n. stop _ (c .before .before .check-expr-params .ensures) (not-true _ (c .if2 .taken))))
+    (λ c. then (c .before .before .before .before .before .check-below .ensures) (not-false _ (c .before .before .before .if1 .left)) (λ n. stop _ (c .before .before .check-items .ensures) (not-true _ (c .if2 .taken))))
     (λ c κs. search needs)
-    (λ c. then (c .before .before .before .before .before .before .check-below .ensures) (not-false _ (c .before .before .before .before .if1 .left)) (λ n. then (c .before .before .before .check-expr-params .ensures) (not-false _ (c .before .if2 .left)) (λ p. last _ (c .check-trait-return .ensures)))))
+    (λ c. then (c .before .before .before .before .before .before .check-below .ensures) (not-false _ (c .before .before .before .before .if1 .left)) (λ n. then (c .before .before .before .check-items .ensures) (not-false _ (c .before .if2 .left)) (λ p. last _ (c .check-trait-return .ensures)))))

@@ -1,6 +1,8 @@
--- `projected::parts::functions_start` meets its contract. Assumes nothing.
+-- `projected::parts::functions_start` meets its contract: as many types are gone past as are counted. Assumes nothing.
 use borrow.Author.Needs.{needs}
-use Rattle.projected.proofs.TypeArgs.{types-behind}
+use native.Mathlib.Omega.{arith}
+use Rattle.reading.specs.Sections.{length-section}
+use Rattle.projected.proofs.TypeArgs.{types-left}
 use Rattle.projected.proofs.parts.functions_start.Statement.{statement}
 use Rattle.projected.proofs.parts.functions_start.Tie as tie
 
@@ -9,4 +11,6 @@ functions-start-spec =
     tie.close
     (tie.spec
     (λ c κs. search needs)
-    (λ c. λ ts n h. types-behind _ _ ts _ n h (c .check-types .ensures)))
+    (λ c κs. search needs)
+    (λ c κs. search needs)
+    (λ c. λ ts n h. c .skip-types .ensures _ n (types-left _ _ ts _ n h _ (c .before .before .section-word .ensures) _ (c .before .after .ensures (omega (arith, h .0 .inside, length-section (c .before .before .before .before .before .pre .pool)))))))

@@ -6,7 +6,7 @@ use borrow.Author.Tests.{not-true, not-false}
 use lib.ListN.{length}
 use lib.Seq.{length-take-le}
 use Rattle.outcomes.specs.Coming.{comes-same, comes-err}
-use Rattle.projected.proofs.Passing.{not-passed, was-passed}
+use Rattle.outcomes.specs.Passing.{not-passed, was-passed}
 use Rattle.projection.proofs.WholeLaws.{has-repeat, has-stranger, all-tested}
 use Rattle.projection.proofs.WantedParts.{few, given, asked-at, all, against-names, start-small, types-small, stand, few-places}
 use Rattle.projection.proofs.found.project_tested.Statement.{statement}

@@ -2,7 +2,7 @@
 use mathlib.Core.Path.{refl}
 use Rattle.rules.specs.Image.{definition-node}
 use Rattle.reading.specs.Says.{given, failed}
-use Rattle.rows.proofs.Rows.{elsewhere, definition-then}
+use Rattle.rows.proofs.RowSteps.{elsewhere, definition-then}
 use borrow.Author.Needs.{needs}
 use Rattle.rows.proofs.definitions.check_definition_row.Statement.{statement}
 use Rattle.rows.proofs.definitions.check_definition_row.Tie as tie

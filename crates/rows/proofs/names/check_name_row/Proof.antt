@@ -2,7 +2,7 @@
 use borrow.Author.Tests.{not-true, not-false}
 use Rattle.rules.specs.Image.{name-row}
 use Rattle.reading.specs.Says.{last, rule-then, rule-stop}
-use Rattle.rows.proofs.Rows.{four-then, alias-none, alias-read}
+use Rattle.rows.proofs.RowSteps.{four-then, alias-none, alias-read}
 use borrow.Author.Needs.{needs}
 use Rattle.rows.proofs.names.check_name_row.Statement.{statement}
 use Rattle.rows.proofs.names.check_name_row.Tie as tie

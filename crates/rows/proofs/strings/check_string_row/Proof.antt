@@ -1,6 +1,6 @@
 -- `rows::check_string_row` meets its contract. Assumes nothing.
 use Rattle.rules.specs.Image.{string-row}
-use Rattle.rows.proofs.Rows.{two-then, last-rule}
+use Rattle.rows.proofs.RowSteps.{two-then, last-rule}
 use borrow.Author.Needs.{needs}
 use Rattle.rows.proofs.strings.check_string_row.Statement.{statement}
 use Rattle.rows.proofs.strings.check_string_row.Tie as tie

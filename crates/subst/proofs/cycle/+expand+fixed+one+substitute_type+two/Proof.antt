@@ -5,7 +5,6 @@ mod Fixed-needs
 mod One-needs
 mod SubstituteType-needs
 mod Two-needs
-use Prim.Native.Nat.{ℕ}
 use borrow.Author.Needs.{needs}
 use Rattle.subst.proofs.cycle.expand.Reads as expand
 use Rattle.subst.proofs.cycle.+expand+fixed+one+substitute_type+two.Lts-expand as expand-lts

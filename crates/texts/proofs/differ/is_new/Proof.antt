@@ -1,11 +1,10 @@
-use mathlib.Core.Path.{_≡_, sym, ap, _∙_}
+use mathlib.Core.Path.{sym, ap, _∙_}
 use mathlib.Core.Bool.{not}
 use native.Mathlib.Omega.{arith}
 use borrow.Author.Needs.{needs}
 use borrow.Author.Tests.{not-true}
-use denote.Ref.{now}
 use Rattle.texts.specs.All.{all-true}
-use Rattle.texts.specs.Rows.{row-text, new-row}
+use Rattle.texts.specs.Rows.{new-row}
 use Rattle.texts.specs.Hash.{hash-differ}
 use Rattle.texts.proofs.differ.is_new.Statement.{statement}
 use Rattle.texts.proofs.differ.is_new.Tie as tie

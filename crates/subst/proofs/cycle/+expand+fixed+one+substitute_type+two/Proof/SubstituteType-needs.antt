@@ -1,6 +1,6 @@
 -- What the borrow checker leaves of the resolver itself: the arm of each kind.
 use mathlib.Core.Path.{sym, ap, _∙_}
-use Prim.Native.Nat.{ℕ, _-_}
+use Prim.Native.Nat.{ℕ}
 use native.Mathlib.Omega.{arith}
 use Rattle.rules.specs.Kinds.{type-kind}
 use Rattle.subst.proofs.Nodes.{of-none, of-past, of-plain, of-sub, of-bits, of-named, of-qualified, of-generic, of-one, of-fixed, of-two, of-unknown}

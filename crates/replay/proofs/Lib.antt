@@ -1,0 +1,2 @@
+-- Laws of the replay's verdict.
+pub mod Verdicts

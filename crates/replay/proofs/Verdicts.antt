@@ -1,0 +1,76 @@
+-- What code finds of a case, part by part, is the verdict on it; and what a tally grows by.
+use Prim.Native.Nat.{ℕ, zero, suc, _+_, _≤_}
+use mathlib.Core.Path.{_≡_, refl, ap, _∙_}
+use mathlib.Core.Bool.{Bool, true, false, _&&_}
+use mathlib.Core.List.{List, _∷_}
+use native.Mathlib.Omega.{arith}
+use lib.Dec.{eqb}
+use lib.ListN.{length, take, replicate, length-replicate}
+use borrow.Author.Tests.{eq-eqb, ne-eqb}
+use Rattle.rules.specs.Answer as rules
+use Rattle.words.specs.Words.{word-at}
+use Rattle.answers.specs.declared.answer.Answer.{Answer}
+use Rattle.answers.specs.Answers.{answer-of}
+use Rattle.calls.specs.Calls.{answer-for}
+use Rattle.cases.specs.declared.case.Case.{Case}
+use Rattle.cases.specs.Cases.{Askable}
+use Rattle.replay.specs.declared.asked.Compared.{Compared}
+use Rattle.replay.specs.declared.Tally.{Tally}
+use Rattle.replay.specs.Replayed.{which-call, output-fill, detail-fill, part, stored-fields, as-stored, judged, compared, agrees, one-where-not, tallied, either, counted-of}
+
+-- the number of project_impl, and any other
+module _ (n : ℕ) (image : List ℕ) (row : ℕ) (output detail : List ℕ) {a : rules.Answer} where
+  pub projection-asked : n ≡ 0 → a ≡ rules.project-answer image row output detail → a ≡ answer-for (which-call n) image row output detail
+  projection-asked e h = rw (eq-eqb n 0 e) h
+
+  pub signatures-asked : (n ≡ 0 → ⊥) → a ≡ rules.signatures-answer image row output detail → a ≡ answer-for (which-call n) image row output detail
+  signatures-asked e h = rw (ne-eqb n 0 e) h
+
+-- five words, each compared with a field
+pub five-compared : (file : List ℕ) (at : ℕ) (a : Answer) {u v w x y : ℕ} → u ≡ word-at file at → v ≡ word-at file (at + 4) → w ≡ word-at file (at + 8) → x ≡ word-at file (at + 12) → y ≡ word-at file (at + 16)
+    → (eqb u (a .number) && eqb v (a .function .0) && eqb w (a .second .0) && eqb x (a .length) && eqb y (a .visits)) ≡ stored-fields file at a
+five-compared file at a eu ev ew ex ey = rw (eu, ev, ew, ex, ey)
+
+abbrev made : Bool → Bool → Bool → Answer → ℕ → Compared
+made f o d a n = record { fields = f; output = o; detail = d; answer = a; bytes = n }
+
+-- the answer on the case's image; its fields, and each buffer with the bytes stored for it and its own fill
+pub judges : (file : List ℕ) (c : Case) (a : Answer) (output detail output₀ detail₀ image : List ℕ) {f o d : Bool} → image ≡ part file (c .image)
+    → answer-of a output detail ≡ answer-for (which-call (c .call)) image (c .row .0) output₀ detail₀ → f ≡ stored-fields file (c .fields) a
+    → (written : List ℕ) (p : ℕ) → written ≡ part file (c .written) → p ≡ output-fill → o ≡ as-stored output written p
+    → (told : List ℕ) (q : ℕ) → told ≡ part file (c .told) → q ≡ detail-fill → d ≡ as-stored detail told q
+    → {n : ℕ} → n ≡ length output₀ + length detail₀ → made f o d a n ≡ judged file c (answer-for (which-call (c .call)) (part file (c .image)) (c .row .0) output₀ detail₀) (length output₀ + length detail₀)
+unfolding answer-of
+judges file c a output detail output₀ detail₀ image ei e ef written p ew ep eo told q et eq ed en = rw (← ei, ← e, ef, eo, ed, ew, ep, et, eq, en)
+
+-- the first bytes of an array that is filled with one
+pub take-filled : (n m x : ℕ) → n ≤ m → take n (replicate m x) ≡ replicate n x
+take-filled zero m x h = refl
+take-filled (suc n) zero x h = absurd (omega arith)
+take-filled (suc n) (suc m) x h = ap {B = List ℕ} (λ l. x ∷ l) (take-filled n m x (omega arith))
+
+pub filled-length : (n m x : ℕ) → n ≤ m → length (take n (replicate m x)) ≡ n
+filled-length n m x h = ap length (take-filled n m x h) ∙ length-replicate n x
+
+-- buffers that hold nothing but their fill
+pub lent-filled : (file : List ℕ) (c : Case) (output detail : List ℕ) {r : Compared} → output ≡ replicate (c .output) output-fill → detail ≡ replicate (c .detail) detail-fill
+    → r ≡ judged file c (answer-for (which-call (c .call)) (part file (c .image)) (c .row .0) output detail) (length output + length detail) → r ≡ compared file c
+lent-filled file c output detail eo ed e = e ∙ rw (eo, ed, length-replicate (c .output) output-fill, length-replicate (c .detail) detail-fill)
+
+-- a case that is counted, and one that is not
+pub of-the-call : (file : List ℕ) (c : Case) (call : ℕ) (t : Tally) {r : Compared} {u : Tally} → c .call ≡ call → r ≡ compared file c → u ≡ tallied t r → u ≡ counted-of file c call t
+of-the-call file c call t e er eu = eu ∙ rw (er, eq-eqb (c .call) call e)
+
+pub of-the-other : (file : List ℕ) (c : Case) (call : ℕ) (t : Tally) → (c .call ≡ call → ⊥) → t ≡ counted-of file c call t
+of-the-other file c call t e = rw (ne-eqb (c .call) call e)
+
+-- by a case, at most so many bytes, and at most one that differs
+abbrev pub Grows : Tally → Tally → Type 0
+Grows t u = (u .cases ≤ t .cases + 1) × (u .bytes ≤ t .bytes + 66560) × (u .differ ≤ t .differ + 1)
+
+pub grows : (file : List ℕ) (c : Case) (call : ℕ) (t u : Tally) → Askable file c → u ≡ counted-of file c call t → Grows t u
+grows file c call t u a e = rw e (go (eqb (c .call) call) (agrees (compared file c))) where
+  go : (k b : Bool) → Grows t (either k (record { cases = t .cases + 1; bytes = t .bytes + (c .output + c .detail); differ = t .differ + one-where-not b }) t)
+  go true true = (omega arith, omega arith, omega arith)
+  go true false = (omega arith, omega arith, omega arith)
+  go false b = (omega arith, omega arith, omega arith)
