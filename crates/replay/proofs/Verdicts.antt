@@ -1,5 +1,5 @@
 -- What code finds of a case, part by part, is the verdict on it; and what a tally grows by.
-use Prim.Native.Nat.{ℕ, zero, suc, _+_, _≤_}
+use Prim.Native.Nat.{ℕ, zero, suc, _+_, _-_, _*_, _<_, _≤_, min}
 use mathlib.Core.Path.{_≡_, refl, ap, _∙_}
 use mathlib.Core.Bool.{Bool, true, false, _&&_}
 use mathlib.Core.List.{List, _∷_}
@@ -13,10 +13,11 @@ use Rattle.answers.specs.declared.answer.Answer.{Answer}
 use Rattle.answers.specs.Answers.{answer-of}
 use Rattle.calls.specs.Calls.{answer-for}
 use Rattle.cases.specs.declared.case.Case.{Case}
-use Rattle.cases.specs.Cases.{Askable}
+use Rattle.cases.specs.Cases.{Askable, case-at}
 use Rattle.replay.specs.declared.asked.Compared.{Compared}
 use Rattle.replay.specs.declared.Tally.{Tally}
-use Rattle.replay.specs.Replayed.{which-call, output-fill, detail-fill, part, stored-fields, as-stored, judged, compared, agrees, one-where-not, tallied, either, counted-of}
+use Rattle.replay.specs.declared.Total.{Total}
+use Rattle.replay.specs.Replayed.{which-call, output-fill, detail-fill, part, stored-fields, as-stored, judged, compared, agrees, one-where-not, tallied, either, counted-of, none-yet, on-or-stopped, total-from, total-of}
 
 -- the number of project_impl, and any other
 module _ (n : ℕ) (image : List ℕ) (row : ℕ) (output detail : List ℕ) {a : rules.Answer} where
@@ -74,3 +75,27 @@ grows file c call t u a e = rw e (go (eqb (c .call) call) (agrees (compared file
   go true true = (omega arith, omega arith, omega arith)
   go true false = (omega arith, omega arith, omega arith)
   go false b = (omega arith, omega arith, omega arith)
+
+-- before the first case
+pub starts : (file : List ℕ) (call count at : ℕ) (t : Tally) → count ≡ word-at file 0 → t ≡ none-yet → at ≡ min 4 (length file)
+    → (t .cases ≤ 0) × (t .bytes ≤ 66560 * 0) × (t .differ ≤ 0) × (total-from (count - 0) file call 0 at t ≡ total-of file call)
+starts file call count at t ec et ea = let n : count - 0 ≡ word-at file 0 = omega arith in rw (n, et, ea) (omega arith, omega arith, omega arith, refl)
+
+-- what is left of a file's cases decides: a case that is ok, one that is not, and the end
+module _ (file : List ℕ) (call count i at : ℕ) (t : Tally) {all : Total} (left : total-from (count - i) file call i at t ≡ all) where
+  first : (c : Case) (u : Tally) → i < count → c ≡ case-at file at → u ≡ counted-of file c call t
+      → on-or-stopped (c .ok) (total-from (count - (i + 1)) file call (i + 1) (c .next) u) (record { whole = false; reached = i; tally = t }) ≡ all
+  unfolding total-from
+  first c u h e eu =
+      let n : suc (count - (i + 1)) ≡ count - i = omega arith in
+      rw (eu, e) (ap (λ (k : ℕ). total-from k file call i at t) n ∙ left)
+
+  pub goes-on : (c : Case) (u : Tally) → i < count → c ≡ case-at file at → c .ok ≡ true → u ≡ counted-of file c call t → total-from (count - (i + 1)) file call (i + 1) (c .next) u ≡ all
+  goes-on c u h e o eu = rw o at (first c u h e eu)
+
+  pub stops : (c : Case) → i < count → c ≡ case-at file at → c .ok ≡ false → _≡_ {A = Total} (record { whole = false; reached = i; tally = t }) all
+  stops c h e o = rw o at (first c (counted-of file c call t) h e refl)
+
+  pub ends : count ≤ i → _≡_ {A = Total} (record { whole = eqb at (length file); reached = i; tally = t }) all
+  unfolding total-from
+  ends h = let n : 0 ≡ count - i = omega arith in ap (λ (k : ℕ). total-from k file call i at t) n ∙ left

@@ -1,5 +1,5 @@
 -- What the replay says of a stored case: the call asked anew, and its answer held against the case's words and bytes.
-use Prim.Native.Nat.{ℕ, _+_, _-_}
+use Prim.Native.Nat.{ℕ, zero, suc, _+_, _-_, min}
 use mathlib.Core.Bool.{Bool, true, false, _&&_}
 use mathlib.Core.List.{List, _++_}
 use lib.Dec.{eqb}
@@ -12,8 +12,10 @@ use Rattle.calls.specs.declared.Call.{Call}
 use Rattle.calls.specs.Calls.{answer-for}
 use Rattle.cases.specs.declared.case.Part.{Part}
 use Rattle.cases.specs.declared.case.Case.{Case}
+use Rattle.cases.specs.Cases.{case-at}
 use Rattle.replay.specs.declared.asked.Compared.{Compared}
 use Rattle.replay.specs.declared.Tally.{Tally}
+use Rattle.replay.specs.declared.Total.{Total}
 
 abbrev call-when : Bool → Call
 call-when true = Call.Projection
@@ -88,3 +90,21 @@ either false t u = u
 -- a case counted where it is of the call that is replayed
 abbrev pub counted-of : List ℕ → Case → ℕ → Tally → Tally
 counted-of file c call t = either (eqb (c .call) call) (tallied t (compared file c)) t
+
+abbrev pub none-yet : Tally
+none-yet = record { cases = 0; bytes = 0; differ = 0 }
+
+abbrev pub on-or-stopped : Bool → Total → Total → Total
+on-or-stopped true on stopped = on
+on-or-stopped false on stopped = stopped
+
+-- so many cases from a place on, the first of them the i-th: up to one that is not ok, or to the last, which ends where a whole file ends
+unfoldable pub total-from : ℕ → List ℕ → ℕ → ℕ → ℕ → Tally → Total
+total-from zero file call i at t = record { whole = eqb at (length file); reached = i; tally = t }
+total-from (suc n) file call i at t =
+    let c = case-at file at in
+    on-or-stopped (c .ok) (total-from n file call (i + 1) (c .next) (counted-of file c call t)) (record { whole = false; reached = i; tally = t })
+
+-- the file's first word is the number of its cases, which stand behind it
+abbrev pub total-of : List ℕ → ℕ → Total
+total-of file call = total-from (word-at file 0) file call 0 (min 4 (length file)) none-yet

@@ -11,7 +11,7 @@ ghost use Prim.Native.Nat.{_+_, _<_, _^_};
 ghost use mathlib.Core.Path.{_≡_};
 ghost use lib.ListN.{length};
 ghost use Rattle.cases.specs.Cases.{Askable};
-ghost use Rattle.replay.specs.Replayed.{tallied, counted-of};
+ghost use Rattle.replay.specs.Replayed.{tallied, counted-of, none-yet, total-of};
 
 // What was compared, and how many cases differ.
 struct Tally {
@@ -22,7 +22,7 @@ struct Tally {
 
 // Nothing yet.
 fn none() -> Tally
-    ensures { λ r. ⌜ (r .cases ≡ 0) × (r .bytes ≡ 0) × (r .differ ≡ 0) ⌝ }
+    ensures { λ r. ⌜ r ≡ none-yet ⌝ }
 {
     Tally {
         cases: 0,
@@ -57,8 +57,17 @@ fn one(file: &[u8], label: &[u8], c: Case, call: u32, t: Tally) -> Tally
     counted(t, compared)
 }
 
-// All cases of a call with their labels.
-fn replay(file: &[u8], names: &[u8], call: u32, title: &[u8]) {
+// What a file's cases come to, where it is whole; else up to the case at which that is seen.
+struct Total {
+    whole: bool,
+    reached: u32,
+    tally: Tally,
+}
+
+// All cases of a call, told by their labels.
+fn replayed(file: &[u8], names: &[u8], call: u32) -> Total
+    ensures { λ r. ⌜ r ≡ total-of (now (file .entry)) call ⌝ }
+{
     let count = words::word_at(file, 0);
     let mut tally = none();
     let mut at = case::least(4, file.len());
@@ -67,8 +76,11 @@ fn replay(file: &[u8], names: &[u8], call: u32, title: &[u8]) {
     while i < count {
         let c = case::read(file, at);
         if !c.ok {
-            told::damaged(i);
-            return;
+            return Total {
+                whole: false,
+                reached: i,
+                tally,
+            };
         }
         let end = labels::end(names, name);
         tally = one(file, &names[name..end], c, call, tally);
@@ -76,10 +88,21 @@ fn replay(file: &[u8], names: &[u8], call: u32, title: &[u8]) {
         name = labels::next(names, end);
         i += 1;
     }
-    if at != file.len() {
-        told::damaged(count);
+    Total {
+        whole: at == file.len(),
+        reached: i,
+        tally,
+    }
+}
+
+// All cases of a call, and what they come to.
+fn replay(file: &[u8], names: &[u8], call: u32, title: &[u8]) {
+    let r = replayed(file, names, call);
+    if !r.whole {
+        told::damaged(r.reached);
         return;
     }
+    let tally = r.tally;
     told::tally(title, tally.cases, tally.bytes, tally.differ);
 }
 
