@@ -1,6 +1,6 @@
 -- A row at a time: an implementation ends the search, any other row passes it on. Assumes nothing.
 use Prim.Native.Nat.{ℕ, zero, suc, _<_, _≤_}
-use mathlib.Core.Path.{_≡_, refl, sym, ap, _∙_}
+use mathlib.Core.Path.{_≡_, refl, sym}
 use mathlib.Core.Bool.{true, false}
 use mathlib.Core.List.{List, [], _∷_}
 use mathlib.Core.Option.{Option, none, some}
@@ -12,8 +12,6 @@ use Rattle.rules.specs.Image.{readable}
 use Rattle.rules.specs.Project.{as-implementation}
 use Rattle.rules.specs.Projone.{lowest-from, lowest-implementation}
 use Rattle.reading.specs.Steps.{true-false}
-use Rattle.layout.specs.declared.Opened.{Opened}
-use Rattle.image.specs.Verdict.{Verdict}
 use Rattle.traits.specs.declared.find.Found.{Found}
 use Rattle.traits.specs.Found.{Agrees, Finds}
 
@@ -52,15 +50,6 @@ ended [] zero row l = refl
 ended [] (suc k) row l = refl
 ended (d ∷ ds) zero row l = absurd (omega arith)
 ended (d ∷ ds) (suc k) row l = ended ds k row (omega arith)
-
--- a verdict that is not ok
-pub not-readable : {image : List ℕ} {r : Opened} → Verdict image r → r .ok ≡ false → readable image ≡ none
-unfolding is-some
-not-readable {image} {r} v n = go (readable image) refl
-  where
-    go : (o : Option CompiledSchema) → readable image ≡ o → readable image ≡ none
-    go none e = e
-    go (some s) e = absurd (true-false (sym (v .ok ∙ ap is-some e) ∙ n))
 
 -- the image's row, by what it reads to
 pub unreadable : (image : List ℕ) → readable image ≡ none → lowest-implementation image ≡ 0

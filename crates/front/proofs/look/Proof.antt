@@ -4,7 +4,7 @@ use mathlib.Core.Path.{refl, ap}
 use native.Mathlib.Omega.{arith}
 use borrow.Author.Tests.{not-true, not-false}
 use Rattle.layout.specs.declared.Opened.{Opened}
-use Rattle.front.proofs.Verdicts.{not-some, not-none}
+use Rattle.image.proofs.Verdicts.{not-some, not-none}
 use Rattle.front.proofs.look.Statement.{statement}
 use Rattle.front.proofs.look.Tie as tie
 

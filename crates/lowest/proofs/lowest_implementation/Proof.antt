@@ -2,7 +2,8 @@ use mathlib.Core.Path.{sym, _∙_}
 use borrow.Author.Tests.{not-true, not-false}
 use borrow.Author.Needs.{needs}
 use Rattle.image.proofs.Reading.{schema-of}
-use Rattle.lowest.proofs.Rows.{not-readable, unreadable, when-readable}
+use Rattle.image.proofs.Verdicts.{not-readable}
+use Rattle.lowest.proofs.Rows.{unreadable, when-readable}
 use Rattle.lowest.proofs.lowest_implementation.Statement.{statement}
 use Rattle.lowest.proofs.lowest_implementation.Tie as tie
 

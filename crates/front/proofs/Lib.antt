@@ -1,2 +1,0 @@
--- Laws of an image's verdict.
-pub mod Verdicts
