@@ -15,20 +15,18 @@ pub fn ratios(times: &[Figure], counts: &[Figure]) -> Result<String, String> {
         let _ = writeln!(text, "`{name}` on typical images:\n");
         let _ = writeln!(
             text,
-            "| bytes | of the Rust with building | of the Rust without | ns a byte | instructions a byte |"
+            "| bytes | of the Rust with building | of the Rust without | instructions a byte |"
         );
-        let _ = writeln!(text, "|---|---|---|---|---|");
+        let _ = writeln!(text, "|---|---|---|---|");
         for time in times.iter().filter(|figure| figure.call == call && figure.kind == TYPICAL) {
             let count = beside(time, counts)?;
-            let a_byte = |figure: &Figure| figure.cost[0] / figure.bytes as f64;
             let _ = writeln!(
                 text,
-                "| {} | {} | {} | {:.1} | {:.0} |",
+                "| {} | {} | {} | {:.0} |",
                 time.bytes,
                 both(time, count, 1),
                 both(time, count, 2),
-                1e3 * a_byte(time),
-                a_byte(count)
+                count.cost[0] / count.bytes as f64
             );
         }
         text.push('\n');
