@@ -1,9 +1,9 @@
 // Words written one behind the other, each only where it ends inside the slice.
-use held::types::HeldType;
+use type_words::HeldType;
 ghost use mathlib.Core.List.{[], _∷_};
 ghost use Prim.Native.Nat.{_≤_};
 ghost use lib.ListN.{length};
-ghost use Rattle.held.specs.Runs.{held-run};
+ghost use Rattle.type_words.specs.Runs.{held-run};
 ghost use Rattle.answers.specs.Writes.{Writes};
 
 // Writes some words, and says where the next goes.

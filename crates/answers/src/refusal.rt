@@ -1,13 +1,13 @@
 // A refusal: its number, its names, its detail words.
-use held::types::HeldType;
 use rules::ids::NameId;
+use type_words::HeldType;
 ghost use mathlib.Core.Path.{_≡_};
 ghost use mathlib.Core.List.{[], _∷_};
 ghost use Prim.Native.Nat.{_+_, _<_, _≤_};
 ghost use lib.ListN.{length};
 ghost use Rattle.rules.specs.Words.{bytes-of, over-start};
 ghost use Rattle.rules.specs.Refusal.{refusal, in-function, with-name, with-detail};
-ghost use Rattle.held.specs.Runs.{held-run};
+ghost use Rattle.type_words.specs.Runs.{held-run};
 ghost use Rattle.answers.specs.Refusals.{detail-of, refusal-of, adding};
 
 pub struct Refusal {

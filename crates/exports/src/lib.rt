@@ -1,14 +1,14 @@
 // The C forms, for Rust or C to link.
-use blocks::SHORT_BLOCK;
-use blocks::put_answer;
-use calls::Call;
+use call_answer::Call;
+use export_block::SHORT_BLOCK;
+use export_block::put_answer;
 use rules::ids::TypeId;
 ghost use mathlib.Core.Path.{_≡_};
 ghost use Rattle.rules.specs.Options.{is-some};
 ghost use Rattle.rules.specs.Image.{readable};
 ghost use Rattle.rules.specs.Answer.{project-answer, signatures-answer};
-ghost use Rattle.blocks.specs.Block.{Exported};
-ghost use Rattle.calls.specs.Calls.{answer-for};
+ghost use Rattle.export_block.specs.Block.{Exported};
+ghost use Rattle.call_answer.specs.Calls.{answer-for};
 
 // Whether the image is readable.
 #[no_mangle]

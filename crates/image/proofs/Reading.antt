@@ -9,23 +9,23 @@ use Rattle.rules.specs.Syntax.{CompiledSchema}
 use Rattle.rules.specs.Reader.{Rest, rest-at, Reader, _>>=_, bound, from}
 use Rattle.rules.specs.Options.{is-some}
 use Rattle.rules.specs.Image.{rows, readable}
-use Rattle.reading.specs.declared.Checked.{Checked}
-use Rattle.reading.specs.Verdict.{Agrees, refusal, Says}
-use Rattle.reading.specs.Steps.{true-false}
-use Rattle.reading.specs.Says.{got, from-then, from-stop, rule-then, rule-stop}
-use Rattle.reading.specs.Gives as gives
-use Rattle.reading.specs.Gives.{Gives}
-use Rattle.texts.specs.Rows.{rows-differ}
-use Rattle.layout.specs.declared.Layout.{Layout}
-use Rattle.layout.specs.declared.Opened.{Opened}
-use Rattle.layout.specs.Rows.{Cut}
-use Rattle.layout.specs.Readers.{rows-of}
-use Rattle.layout.specs.Open.{Open}
-use Rattle.sections.specs.Laid.{value, opened-told, Laid}
-use Rattle.rows.specs.declared.Rows.{Rows}
-use Rattle.rows.specs.Verdict.{verdict, RowsSay}
-use Rattle.rows.proofs.RowSteps.{elsewhere}
-use Rattle.rows.proofs.Layouts.{Names, names-give, strings-give, Definitions, definitions-give, texts-rule}
+use Rattle.image_words.specs.declared.Checked.{Checked}
+use Rattle.image_words.specs.Verdict.{Agrees, refusal, Says}
+use Rattle.image_words.specs.Steps.{true-false}
+use Rattle.image_words.specs.Says.{got, from-then, from-stop, rule-then, rule-stop}
+use Rattle.image_words.specs.Gives as gives
+use Rattle.image_words.specs.Gives.{Gives}
+use Rattle.image_texts.specs.Rows.{rows-differ}
+use Rattle.image_layout.specs.declared.Layout.{Layout}
+use Rattle.image_layout.specs.declared.Opened.{Opened}
+use Rattle.image_layout.specs.Rows.{Cut}
+use Rattle.image_layout.specs.Readers.{rows-of}
+use Rattle.image_layout.specs.Open.{Open}
+use Rattle.image_sections.specs.Laid.{value, opened-told, Laid}
+use Rattle.image_rows.specs.declared.Rows.{Rows}
+use Rattle.image_rows.specs.Verdict.{verdict, RowsSay}
+use Rattle.image_rows.proofs.RowSteps.{elsewhere}
+use Rattle.image_rows.proofs.Layouts.{Names, names-give, strings-give, Definitions, definitions-give, texts-rule}
 use Rattle.image.specs.Verdict.{Verdict}
 
 -- a reading of other words, and then what follows, which may know what was read

@@ -7,8 +7,8 @@ use mathlib.Core.Option.{Option, none, some}
 use Rattle.rules.specs.Syntax.{CompiledSchema}
 use Rattle.rules.specs.Options.{is-some}
 use Rattle.rules.specs.Image.{readable}
-use Rattle.reading.specs.Steps.{true-false}
-use Rattle.layout.specs.declared.Opened.{Opened}
+use Rattle.image_words.specs.Steps.{true-false}
+use Rattle.image_layout.specs.declared.Opened.{Opened}
 use Rattle.image.specs.Verdict.{Verdict}
 
 -- a verdict that is not ok, and one that is

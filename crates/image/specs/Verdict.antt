@@ -6,10 +6,10 @@ use mathlib.Core.Option.{some}
 use Rattle.rules.specs.Syntax.{CompiledSchema}
 use Rattle.rules.specs.Options.{is-some}
 use Rattle.rules.specs.Image.{readable}
-use Rattle.layout.specs.declared.Opened.{Opened}
-use Rattle.layout.specs.Rows.{Cut}
-use Rattle.layout.specs.Open.{Open}
-use Rattle.sections.specs.Laid.{opened-told}
+use Rattle.image_layout.specs.declared.Opened.{Opened}
+use Rattle.image_layout.specs.Rows.{Cut}
+use Rattle.image_layout.specs.Open.{Open}
+use Rattle.image_sections.specs.Laid.{opened-told}
 
 -- ok exactly where the rules read a schema, and then the layout cuts the image as 01 has it and that schema stands by it; the layout is the one that the trailer tells in either case
 pub record Verdict (image : List ℕ) (r : Opened) : Type 0 where

@@ -1,14 +1,14 @@
 // An image's verdict: readable or not, and then its layout.
 mod all;
 
-use layout::Opened;
+use image_layout::Opened;
 ghost use Rattle.image.specs.Verdict.{Verdict};
 
 // Whether the image is readable, and where its rows stand: one walk of the image.
 pub fn read_image(image: &[u8]) -> Opened
     ensures { λ r. ⌜ Verdict (now (image .entry)) r ⌝ }
 {
-    let o = sections::read_layout(image);
+    let o = image_sections::read_layout(image);
     if !o.ok {
         return o;
     }

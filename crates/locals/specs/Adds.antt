@@ -7,10 +7,10 @@ use borrow.Author.Count.{below-more}
 use lib.ListN.{length, getD, set, length-set}
 use lib.Seq.{getD-set-same, getD-set-other}
 use Rattle.rules.specs.Syntax.{ResolvedType, run, Param}
-use Rattle.held.specs.declared.types.HeldType.{HeldType}
-use Rattle.held.specs.Runs.{held-run}
-use Rattle.held.specs.Holds.{Holds}
-use Rattle.held.proofs.Runs.{run-word}
+use Rattle.type_words.specs.declared.HeldType.{HeldType}
+use Rattle.type_words.specs.Runs.{held-run}
+use Rattle.type_words.specs.Holds.{Holds}
+use Rattle.type_words.proofs.Runs.{run-word}
 use Rattle.locals.specs.Rows.{Row, Rows}
 
 -- in a loop: k words stand in row i, and the words of the rows before it stayed

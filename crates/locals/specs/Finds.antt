@@ -11,9 +11,9 @@ use borrow.Author.Tests.{eq-eqb, ne-eqb}
 use Rattle.rules.specs.Syntax.{ResolvedType, Param}
 use Rattle.rules.specs.Options.{or-else}
 use Rattle.rules.specs.Infer.{find-last}
-use Rattle.held.specs.declared.types.HeldType.{HeldType}
-use Rattle.held.specs.declared.types.MaybeType.{MaybeType}
-use Rattle.held.specs.Holds.{Holds, MaybeHolds}
+use Rattle.type_words.specs.declared.HeldType.{HeldType}
+use Rattle.type_words.specs.declared.MaybeType.{MaybeType}
+use Rattle.type_words.specs.Holds.{Holds, MaybeHolds}
 use Rattle.locals.specs.Rows.{Row, Rows, Last}
 
 -- the first of some names, by what the others give

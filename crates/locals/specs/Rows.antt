@@ -7,7 +7,7 @@ use lib.ListN.{length, getD}
 use Rattle.rules.specs.Syntax.{ResolvedType, run, Param}
 use Rattle.rules.specs.Infer.{find-last}
 use Rattle.rules.proofs.Types.{Stored}
-use Rattle.stored.specs.Copies.{Copied}
+use Rattle.type_from_pool.specs.Copies.{Copied}
 
 -- over the number of name rows and the table: row i is a local's name, the count of its type's words, and these words
 pub record Row (rows : ℕ) (names words lens : List ℕ) (i : ℕ) (p : Param ResolvedType) : Type 0 where

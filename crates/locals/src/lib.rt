@@ -1,13 +1,13 @@
 // The locals in view: a lent table of 64 rows. A local's type has 64 words; its name and the count of its words stand beside.
-use held::types::HeldType;
-use held::types::MaybeType;
 use rules::ids::NameId;
+use type_words::HeldType;
+use type_words::MaybeType;
 ghost use Prim.Native.Nat.{ℕ, _+_, _<_, _≤_};
 ghost use mathlib.Core.List.{List, [], _∷_, _++_};
 ghost use lib.ListN.{length};
 ghost use Rattle.rules.specs.Syntax.{ResolvedType, Param};
 ghost use Rattle.rules.specs.Infer.{find-last};
-ghost use Rattle.held.specs.Holds.{Holds, MaybeHolds};
+ghost use Rattle.type_words.specs.Holds.{Holds, MaybeHolds};
 ghost use Rattle.locals.specs.Rows.{Row, Rows, Last};
 ghost use Rattle.locals.specs.Adds.{Filled};
 

@@ -11,10 +11,10 @@ use Rattle.rules.specs.Reader.{Reader, below, times}
 use Rattle.rules.specs.Syntax.{Statement}
 use Rattle.rules.specs.Kinds.{statement-kind}
 use Rattle.rules.specs.ReadBodies.{let-count, lets, statement, block, body}
-use Rattle.reading.specs.declared.Checked.{Checked}
-use Rattle.reading.specs.Verdict.{refusal, Says, Left}
-use Rattle.reading.specs.Says.{stop, given, below-then, either-first, either-second}
-use Rattle.reading.specs.Loops.{tested, made, test-same, test-more, test-stop, test-done, test-fails, many-stop, many-tested}
+use Rattle.image_words.specs.declared.Checked.{Checked}
+use Rattle.image_words.specs.Verdict.{refusal, Says, Left}
+use Rattle.image_words.specs.Says.{stop, given, below-then, either-first, either-second}
+use Rattle.image_words.specs.Loops.{tested, made, test-same, test-more, test-stop, test-done, test-fails, many-stop, many-tested}
 use Rattle.pool_bodies.specs.StatementAt.{let-of, statement-lets}
 
 -- at most 32 Lets, l of them before these statements

@@ -8,9 +8,9 @@ use Rattle.rules.specs.Reader.{word}
 use Rattle.rules.specs.Kinds.{statement-kind}
 use Rattle.rules.specs.ReadBodies.{statement-node, statement}
 use Rattle.rules.specs.declared.kinds.StatementKind.{StatementKind}
-use Rattle.reading.specs.declared.Checked.{Checked}
-use Rattle.reading.specs.Verdict.{Says}
-use Rattle.reading.specs.Says.{word-then, stop}
+use Rattle.image_words.specs.declared.Checked.{Checked}
+use Rattle.image_words.specs.Verdict.{Says}
+use Rattle.image_words.specs.Says.{word-then, stop}
 
 module _ (names strings : ℕ) {ws : List ℕ} {at : ℕ} {a : Checked} (s : Says word ws at a) where
   pub statement-stop : a .ok ≡ false → Says (statement names strings) ws at a

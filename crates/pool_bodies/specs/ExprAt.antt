@@ -11,8 +11,8 @@ use Rattle.rules.specs.ReadBodies.{exprs, expr-node, expr-tree, expression}
 use Rattle.rules.specs.declared.kinds.ExprKind.{ExprKind}
 use Rattle.laws.specs.Runs.{count, expr-words, Nested}
 use Rattle.laws.specs.Expressions.{expression-exact}
-use Rattle.reading.specs.Gives.{Gives, Word, then, given, failed, word-then, below-then}
-use Rattle.reading.specs.Stands.{Held, held-gives}
+use Rattle.image_words.specs.Gives.{Gives, Word, then, given, failed, word-then, below-then}
+use Rattle.image_words.specs.Stands.{Held, held-gives}
 use Rattle.pool_types.specs.TypeAt.{Wide-at, wide-then}
 
 -- the word at `at` is an expression's code of kind k

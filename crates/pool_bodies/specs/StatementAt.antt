@@ -12,8 +12,8 @@ use Rattle.rules.specs.ReadBodies.{let-count, lets, statement-node, statement, 
 use Rattle.rules.specs.declared.kinds.StatementKind.{StatementKind}
 use Rattle.laws.specs.Runs.{stored-statement-words, body-words, GoodStatement, GoodBody}
 use Rattle.laws.specs.Statements.{statement-exact, body-exact}
-use Rattle.reading.specs.Gives.{Gives, Word, Counted, Maybe-at, then, given, failed, so-then, rule-then, word-then, below-then, many-gives, maybe-gives, either}
-use Rattle.reading.specs.Stands.{Held, held-gives}
+use Rattle.image_words.specs.Gives.{Gives, Word, Counted, Maybe-at, then, given, failed, so-then, rule-then, word-then, below-then, many-gives, maybe-gives, either}
+use Rattle.image_words.specs.Stands.{Held, held-gives}
 use Rattle.pool_types.specs.TypeAt.{Type-stands, type-gives}
 use Rattle.pool_bodies.specs.ExprAt.{Name-at, Expr-stands, expression-gives}
 

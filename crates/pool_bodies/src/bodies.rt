@@ -1,19 +1,19 @@
 // Bodies of functions in the pool.
-use reading::Checked;
-use reading::Section;
+use image_words::Checked;
+use image_words::Section;
 ghost use Rattle.rules.specs.ReadBodies.{block, body};
-ghost use Rattle.reading.specs.Verdict.{section-words, Lies, Says};
+ghost use Rattle.image_words.specs.Verdict.{section-words, Lies, Says};
 
 // At most 256 statements, at most 32 of them Lets.
 pub fn check_block(image: &[u8], pool: Section, at: usize, names: u32, strings: u32) -> Checked
     requires { ⌜ Lies (now image) pool ⌝ }
     ensures { λ r. ⌜ Says (block names strings) (section-words (now (image .entry)) pool) at r ⌝ }
 {
-    let n = reading::check_count(image, pool, at, 256);
+    let n = image_words::check_count(image, pool, at, 256);
     if !n.ok {
         return n;
     }
-    let count = reading::section_word(image, pool, at);
+    let count = image_words::section_word(image, pool, at);
     let mut i = 0;
     let mut next = n.next;
     let mut lets = 0;
@@ -37,11 +37,11 @@ pub fn check_body(image: &[u8], pool: Section, at: usize, names: u32, strings: u
     requires { ⌜ Lies (now image) pool ⌝ }
     ensures { λ r. ⌜ Says (body names strings) (section-words (now (image .entry)) pool) at r ⌝ }
 {
-    let f = reading::check_below(image, pool, at, 2);
+    let f = image_words::check_below(image, pool, at, 2);
     if !f.ok {
         return f;
     }
-    if reading::section_word(image, pool, at) == 0 {
+    if image_words::section_word(image, pool, at) == 0 {
         return f;
     }
     let n = f.next;

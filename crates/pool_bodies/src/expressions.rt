@@ -1,11 +1,11 @@
 // Expressions in the pool.
-use reading::Checked;
-use reading::Section;
+use image_words::Checked;
+use image_words::Section;
 use rules::kinds::ExprKind;
 ghost use Rattle.rules.specs.Reader.{maybe};
 ghost use Rattle.rules.specs.ReadBodies.{exprs, expr-node, expr-tree, expression};
 ghost use Rattle.rules.specs.declared.kinds.ExprKind.the-variants.{Call, TraitMethodCall};
-ghost use Rattle.reading.specs.Verdict.{section-words, Lies, Says, After};
+ghost use Rattle.image_words.specs.Verdict.{section-words, Lies, Says, After};
 
 // So many expressions, each nested at most `nesting` deep.
 pub fn check_exprs(
@@ -45,12 +45,12 @@ pub fn check_call(
     requires { ⌜ Lies (now image) pool ⌝ }
     ensures { λ r. ⌜ Says (expr-node names strings (expr-tree names strings nesting) Call 8) (section-words (now (image .entry)) pool) at r ⌝ }
 {
-    let h = reading::check_below(image, pool, at, names);
+    let h = image_words::check_below(image, pool, at, names);
     if !h.ok {
         return h;
     }
     let n = h.next;
-    let k = reading::check_below(image, pool, n, 33);
+    let k = image_words::check_below(image, pool, n, 33);
     if !k.ok {
         return k;
     }
@@ -62,7 +62,7 @@ pub fn check_call(
         names,
         strings,
         nesting,
-        reading::section_word(image, pool, n),
+        image_words::section_word(image, pool, n),
     )
 }
 
@@ -78,17 +78,17 @@ pub fn check_method(
     requires { ⌜ Lies (now image) pool ⌝ }
     ensures { λ r. ⌜ Says (expr-node names strings (expr-tree names strings nesting) TraitMethodCall 9) (section-words (now (image .entry)) pool) at r ⌝ }
 {
-    let g = reading::check_below(image, pool, at, names);
+    let g = image_words::check_below(image, pool, at, names);
     if !g.ok {
         return g;
     }
     let l = g.next;
-    let h = reading::check_below(image, pool, l, names);
+    let h = image_words::check_below(image, pool, l, names);
     if !h.ok {
         return h;
     }
     let n = h.next;
-    let k = reading::check_below(image, pool, n, 33);
+    let k = image_words::check_below(image, pool, n, 33);
     if !k.ok {
         return k;
     }
@@ -105,7 +105,7 @@ pub fn check_method(
         names,
         strings,
         nesting,
-        reading::section_word(image, pool, n),
+        image_words::section_word(image, pool, n),
     )
 }
 
@@ -143,23 +143,23 @@ pub fn check_expr(
     if nesting == 0 {
         return Checked { ok: false, next: 0 };
     }
-    let a = reading::check_word(pool, at);
+    let a = image_words::check_word(pool, at);
     if !a.ok {
         return a;
     }
     let n = a.next;
     let d = nesting - 1;
-    let k = codes::expr_kind(reading::section_word(image, pool, at));
+    let k = codes::expr_kind(image_words::section_word(image, pool, at));
     match k {
         ExprKind::Literal => pool_types::parts::check_wide(pool, n),
-        ExprKind::Flag => reading::check_below(image, pool, n, 2),
-        ExprKind::Text => reading::check_below(image, pool, n, strings),
-        ExprKind::Local => reading::check_below(image, pool, n, names),
+        ExprKind::Flag => image_words::check_below(image, pool, n, 2),
+        ExprKind::Text => image_words::check_below(image, pool, n, strings),
+        ExprKind::Local => image_words::check_below(image, pool, n, names),
         ExprKind::SelfRef => a,
         ExprKind::FieldAccess => check_operand(
             image,
             pool,
-            reading::check_below(image, pool, n, names),
+            image_words::check_below(image, pool, n, names),
             names,
             strings,
             d,
@@ -170,7 +170,7 @@ pub fn check_expr(
             let l = check_operand(
                 image,
                 pool,
-                reading::check_below(image, pool, n, 10),
+                image_words::check_below(image, pool, n, 10),
                 names,
                 strings,
                 d,
@@ -180,7 +180,7 @@ pub fn check_expr(
         ExprKind::Unary => check_operand(
             image,
             pool,
-            reading::check_below(image, pool, n, 2),
+            image_words::check_below(image, pool, n, 2),
             names,
             strings,
             d,
@@ -208,11 +208,11 @@ pub fn check_maybe_expression(
     requires { ⌜ Lies (now image) pool ⌝ }
     ensures { λ r. ⌜ Says (maybe (expression names strings)) (section-words (now (image .entry)) pool) at r ⌝ }
 {
-    let f = reading::check_below(image, pool, at, 2);
+    let f = image_words::check_below(image, pool, at, 2);
     if !f.ok {
         return f;
     }
-    if reading::section_word(image, pool, at) == 0 {
+    if image_words::section_word(image, pool, at) == 0 {
         return f;
     }
     let n = f.next;

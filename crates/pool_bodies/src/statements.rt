@@ -1,6 +1,6 @@
 // Statements in the pool.
-use reading::Checked;
-use reading::Section;
+use image_words::Checked;
+use image_words::Section;
 use rules::kinds::StatementKind;
 ghost use mathlib.Core.Path.{_≡_};
 ghost use Prim.Native.Nat.{_<_};
@@ -8,7 +8,7 @@ ghost use lib.ListN.{getD};
 ghost use Rattle.rules.specs.Kinds.{statement-kind};
 ghost use Rattle.rules.specs.ReadBodies.{statement-node, statement};
 ghost use Rattle.rules.specs.declared.kinds.StatementKind.the-variants.{Let};
-ghost use Rattle.reading.specs.Verdict.{section-words, Lies, Says};
+ghost use Rattle.image_words.specs.Verdict.{section-words, Lies, Says};
 ghost use Rattle.pool_bodies.specs.StatementAt.{let-of};
 
 // A Let behind its code.
@@ -16,7 +16,7 @@ pub fn check_let(image: &[u8], pool: Section, at: usize, names: u32, strings: u3
     requires { ⌜ Lies (now image) pool ⌝ }
     ensures { λ r. ⌜ Says (statement-node names strings Let) (section-words (now (image .entry)) pool) at r ⌝ }
 {
-    let a = reading::check_below(image, pool, at, names);
+    let a = image_words::check_below(image, pool, at, names);
     if !a.ok {
         return a;
     }
@@ -33,12 +33,12 @@ pub fn check_statement(image: &[u8], pool: Section, at: usize, names: u32, strin
     requires { ⌜ Lies (now image) pool ⌝ }
     ensures { λ r. ⌜ Says (statement names strings) (section-words (now (image .entry)) pool) at r ⌝ }
 {
-    let a = reading::check_word(pool, at);
+    let a = image_words::check_word(pool, at);
     if !a.ok {
         return a;
     }
     let n = a.next;
-    let k = codes::statement_kind(reading::section_word(image, pool, at));
+    let k = codes::statement_kind(image_words::section_word(image, pool, at));
     match k {
         StatementKind::Expr => crate::expressions::check_expression(image, pool, n, names, strings),
         StatementKind::Let => check_let(image, pool, n, names, strings),
@@ -66,7 +66,7 @@ pub fn let_at(image: &[u8], pool: Section, at: usize) -> u32
     requires { ⌜ Lies (now image) pool ⌝ }
     ensures { λ r. ⌜ (r ≡ let-of (statement-kind (getD (section-words (now (image .entry)) pool) at 0))) × (r < 2) ⌝ }
 {
-    let k = codes::statement_kind(reading::section_word(image, pool, at));
+    let k = codes::statement_kind(image_words::section_word(image, pool, at));
     match k {
         StatementKind::Expr => 0,
         StatementKind::Let => 1,

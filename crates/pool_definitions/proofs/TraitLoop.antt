@@ -11,10 +11,10 @@ use Rattle.rules.specs.Syntax.{TraitFnDef}
 use Rattle.rules.specs.Reader.{Reader, below, times}
 use Rattle.rules.specs.ReadTypes.{resolved-type, type-expr}
 use Rattle.rules.specs.ReadDefinitions.{trait-return, trait-function}
-use Rattle.reading.specs.declared.Checked.{Checked}
-use Rattle.reading.specs.Verdict.{refusal, Says, Left}
-use Rattle.reading.specs.Says.{stop, last, given, below-then, either-first, either-second}
-use Rattle.reading.specs.Loops.{tested, test-same, test-dead, test-more, test-stop, test-done, many-stop, many-tested}
+use Rattle.image_words.specs.declared.Checked.{Checked}
+use Rattle.image_words.specs.Verdict.{refusal, Says, Left}
+use Rattle.image_words.specs.Says.{stop, last, given, below-then, either-first, either-second}
+use Rattle.image_words.specs.Loops.{tested, test-same, test-dead, test-more, test-stop, test-done, many-stop, many-tested}
 use Rattle.pool_definitions.specs.Different.{names-of, different-functions, different-twice, take-more}
 use Rattle.pool_definitions.specs.DefinitionAt.{trait-function-gives}
 

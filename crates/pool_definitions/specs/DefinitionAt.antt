@@ -11,8 +11,8 @@ use Rattle.rules.specs.Syntax.{ImplFnDef, TraitReturn, TraitFnDef, MessageDef, 
 use Rattle.rules.specs.ReadDefinitions.{message, trait-return, trait-function, trait, impl-function, implementation}
 use Rattle.laws.specs.DefinitionRuns.{message-words, trait-function-words, trait-words, impl-function-words, implementation-words, GoodMessage, GoodTraitFunction, GoodTrait, GoodFunction, GoodImpl}
 use Rattle.laws.specs.Definitions.{message-exact, trait-function-exact, trait-exact, impl-function-exact, implementation-exact}
-use Rattle.reading.specs.Gives.{Gives, Word, Below-at, Counted, Maybe-at, then, given, rule-then, word-then, below-then, below-gives, many-gives, maybe-gives, either}
-use Rattle.reading.specs.Stands.{Held, held-gives}
+use Rattle.image_words.specs.Gives.{Gives, Word, Below-at, Counted, Maybe-at, then, given, rule-then, word-then, below-then, below-gives, many-gives, maybe-gives, either}
+use Rattle.image_words.specs.Stands.{Held, held-gives}
 use Rattle.pool_types.specs.TypeAt.{Type-stands, type-gives}
 use Rattle.pool_type_exprs.specs.TypeExprAt.{Type-expr-stands, type-expr-gives}
 use Rattle.pool_types.specs.ParamAt.{Param-at, param-gives}

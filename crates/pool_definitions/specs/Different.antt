@@ -13,7 +13,7 @@ use Rattle.rules.specs.Words.{member, all-different}
 use Rattle.rules.specs.Syntax.{TraitFnDef}
 use Rattle.rules.specs.Reader.{Reader, many}
 use Rattle.rules.specs.ReadDefinitions.{trait-function}
-use Rattle.reading.specs.Loops.{tested}
+use Rattle.image_words.specs.Loops.{tested}
 
 -- the names of some functions
 abbrev pub names-of : List TraitFnDef → List ℕ

@@ -1,11 +1,11 @@
 // Implementations in the pool.
+use image_words::Checked;
+use image_words::Section;
 use pool_lists::Form;
 use pool_lists::Item;
-use reading::Checked;
-use reading::Section;
 ghost use Rattle.rules.specs.Reader.{many};
 ghost use Rattle.rules.specs.ReadDefinitions.{impl-function, implementation};
-ghost use Rattle.reading.specs.Verdict.{section-words, Lies, Says};
+ghost use Rattle.image_words.specs.Verdict.{section-words, Lies, Says};
 
 // A name, at most 32 parameters, a return type or none, and the body.
 pub fn check_impl_function(
@@ -18,7 +18,7 @@ pub fn check_impl_function(
     requires { ⌜ Lies (now image) pool ⌝ }
     ensures { λ r. ⌜ Says (impl-function names strings) (section-words (now (image .entry)) pool) at r ⌝ }
 {
-    let a = reading::check_below(image, pool, at, names);
+    let a = image_words::check_below(image, pool, at, names);
     if !a.ok {
         return a;
     }
@@ -47,11 +47,11 @@ pub fn check_impl_functions(
     requires { ⌜ Lies (now image) pool ⌝ }
     ensures { λ r. ⌜ Says (many 64 (impl-function names strings)) (section-words (now (image .entry)) pool) at r ⌝ }
 {
-    let n = reading::check_count(image, pool, at, 64);
+    let n = image_words::check_count(image, pool, at, 64);
     if !n.ok {
         return n;
     }
-    let count = reading::section_word(image, pool, at);
+    let count = image_words::section_word(image, pool, at);
     let mut i = 0;
     let mut next = n.next;
     while i < count {
@@ -76,12 +76,12 @@ pub fn check_implementation(
     requires { ⌜ Lies (now image) pool ⌝ }
     ensures { λ r. ⌜ Says (implementation names strings) (section-words (now (image .entry)) pool) at r ⌝ }
 {
-    let id = reading::check_word(pool, at);
+    let id = image_words::check_word(pool, at);
     if !id.ok {
         return id;
     }
     let l = id.next;
-    let a = reading::check_below(image, pool, l, names);
+    let a = image_words::check_below(image, pool, l, names);
     if !a.ok {
         return a;
     }

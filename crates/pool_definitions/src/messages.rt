@@ -1,10 +1,10 @@
 // Messages and generic aliases in the pool.
+use image_words::Checked;
+use image_words::Section;
 use pool_lists::Form;
 use pool_lists::Item;
-use reading::Checked;
-use reading::Section;
 ghost use Rattle.rules.specs.ReadDefinitions.{message, generic-alias};
-ghost use Rattle.reading.specs.Verdict.{section-words, Lies, Says};
+ghost use Rattle.image_words.specs.Verdict.{section-words, Lies, Says};
 
 // At most 256 fields.
 pub fn check_message(image: &[u8], pool: Section, at: usize, names: u32) -> Checked

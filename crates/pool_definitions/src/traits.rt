@@ -1,13 +1,13 @@
 // Traits in the pool.
+use image_words::Checked;
+use image_words::Section;
 use pool_lists::Form;
 use pool_lists::Item;
-use reading::Checked;
-use reading::Section;
 use rules::ids::NameId;
 ghost use mathlib.Core.Path.{_≡_};
 ghost use Rattle.rules.specs.Words.{member};
 ghost use Rattle.rules.specs.ReadDefinitions.{trait-return, trait-function, trait};
-ghost use Rattle.reading.specs.Verdict.{section-words, Lies, Says};
+ghost use Rattle.image_words.specs.Verdict.{section-words, Lies, Says};
 ghost use Rattle.pool_definitions.specs.Different.{different-functions};
 
 // 0 no return, 1 a resolved type, 2 a type expression.
@@ -15,12 +15,12 @@ pub fn check_trait_return(image: &[u8], pool: Section, at: usize, names: u32) ->
     requires { ⌜ Lies (now image) pool ⌝ }
     ensures { λ r. ⌜ Says (trait-return names) (section-words (now (image .entry)) pool) at r ⌝ }
 {
-    let f = reading::check_below(image, pool, at, 3);
+    let f = image_words::check_below(image, pool, at, 3);
     if !f.ok {
         return f;
     }
     let n = f.next;
-    let code = reading::section_word(image, pool, at);
+    let code = image_words::section_word(image, pool, at);
     if code == 0 {
         return f;
     }
@@ -35,7 +35,7 @@ pub fn check_trait_function(image: &[u8], pool: Section, at: usize, names: u32) 
     requires { ⌜ Lies (now image) pool ⌝ }
     ensures { λ r. ⌜ Says (trait-function names) (section-words (now (image .entry)) pool) at r ⌝ }
 {
-    let a = reading::check_below(image, pool, at, names);
+    let a = image_words::check_below(image, pool, at, names);
     if !a.ok {
         return a;
     }
@@ -67,11 +67,11 @@ pub fn check_trait_functions(image: &[u8], pool: Section, at: usize, names: u32)
     requires { ⌜ Lies (now image) pool ⌝ }
     ensures { λ r. ⌜ Says (different-functions names) (section-words (now (image .entry)) pool) at r ⌝ }
 {
-    let n = reading::check_count(image, pool, at, 64);
+    let n = image_words::check_count(image, pool, at, 64);
     if !n.ok {
         return n;
     }
-    let count = reading::section_word(image, pool, at) as usize;
+    let count = image_words::section_word(image, pool, at) as usize;
     let mut seen = [0u32; 64];
     let mut i = 0;
     let mut next = n.next;
@@ -80,7 +80,7 @@ pub fn check_trait_functions(image: &[u8], pool: Section, at: usize, names: u32)
         if !a.ok {
             return a;
         }
-        let name = reading::section_word(image, pool, next);
+        let name = image_words::section_word(image, pool, next);
         if listed(&seen[..i], NameId(name)) {
             return Checked { ok: false, next: 0 };
         }
@@ -96,7 +96,7 @@ pub fn check_trait(image: &[u8], pool: Section, at: usize, names: u32) -> Checke
     requires { ⌜ Lies (now image) pool ⌝ }
     ensures { λ r. ⌜ Says (trait names) (section-words (now (image .entry)) pool) at r ⌝ }
 {
-    let a = reading::check_below(image, pool, at, names);
+    let a = image_words::check_below(image, pool, at, names);
     if !a.ok {
         return a;
     }

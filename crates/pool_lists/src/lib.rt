@@ -1,9 +1,9 @@
 // Whether a list of types, or of names with their types, stands in the pool, as the rules read it: one code, told which item is listed.
-use reading::Checked;
-use reading::Section;
+use image_words::Checked;
+use image_words::Section;
 ghost use Rattle.rules.specs.Reader.{many};
 ghost use Rattle.rules.specs.ReadTypes.{param};
-ghost use Rattle.reading.specs.Verdict.{section-words, Lies, Says};
+ghost use Rattle.image_words.specs.Verdict.{section-words, Lies, Says};
 ghost use Rattle.pool_lists.specs.Items.{typed, item-reader};
 
 // How a type stands there.
@@ -23,7 +23,7 @@ fn check_named(form: Form, image: &[u8], pool: Section, at: usize, names: u32) -
     requires { ⌜ Lies (now image) pool ⌝ }
     ensures { λ r. ⌜ Says (param names (typed form names)) (section-words (now (image .entry)) pool) at r ⌝ }
 {
-    let a = reading::check_below(image, pool, at, names);
+    let a = image_words::check_below(image, pool, at, names);
     if !a.ok {
         return a;
     }
@@ -57,11 +57,11 @@ pub fn check_items(
     requires { ⌜ Lies (now image) pool ⌝ }
     ensures { λ r. ⌜ Says (many most (item-reader item names)) (section-words (now (image .entry)) pool) at r ⌝ }
 {
-    let n = reading::check_count(image, pool, at, most);
+    let n = image_words::check_count(image, pool, at, most);
     if !n.ok {
         return n;
     }
-    let count = reading::section_word(image, pool, at);
+    let count = image_words::section_word(image, pool, at);
     let mut i = 0;
     let mut next = n.next;
     while i < count {

@@ -8,8 +8,8 @@ use Rattle.rules.specs.Kinds.{type-kind}
 use Rattle.rules.specs.ReadTypes.{type-expr-node, type-expr-tree, type-expr}
 use Rattle.rules.specs.declared.kinds.TypeKind.{TypeKind}
 use Rattle.laws.specs.TypeExprs.{StoredExpr, type-expr-exact}
-use Rattle.reading.specs.Gives.{Gives, Word, then, given, failed, so-then, word-then, below-then, sized-gives}
-use Rattle.reading.specs.Stands.{Held, held-gives}
+use Rattle.image_words.specs.Gives.{Gives, Word, then, given, failed, so-then, word-then, below-then, sized-gives}
+use Rattle.image_words.specs.Stands.{Held, held-gives}
 use Rattle.pool_types.specs.TypeAt.{Node, Wide-at, wide-then, Type-at, shape, shape-at, sub-gives, bits-gives}
 
 -- over the number of name rows and the words

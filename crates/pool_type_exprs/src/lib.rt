@@ -1,11 +1,11 @@
 // Whether a type expression stands in the pool, as the rules read it.
-use reading::Checked;
-use reading::Section;
+use image_words::Checked;
+use image_words::Section;
 use rules::kinds::TypeKind;
 ghost use Rattle.rules.specs.Reader.{fail};
 ghost use Rattle.rules.specs.ReadTypes.{type-expr-node, type-expr-tree, type-expr};
 ghost use Rattle.rules.specs.declared.kinds.TypeKind.the-variants.{Qualified};
-ghost use Rattle.reading.specs.Verdict.{section-words, Lies, Says, After};
+ghost use Rattle.image_words.specs.Verdict.{section-words, Lies, Says, After};
 
 // A type expression, at most `depth` deep, behind what h found.
 pub fn check_expr_part(image: &[u8], pool: Section, h: Checked, names: u32, depth: u32) -> Checked
@@ -24,12 +24,12 @@ pub fn check_qualified(image: &[u8], pool: Section, at: usize, names: u32) -> Ch
     requires { ⌜ Lies (now image) pool ⌝ }
     ensures { λ r. ⌜ Says (type-expr-node names fail Qualified 49) (section-words (now (image .entry)) pool) at r ⌝ }
 {
-    let h = reading::check_below(image, pool, at, names);
+    let h = image_words::check_below(image, pool, at, names);
     if !h.ok {
         return h;
     }
     let n = h.next;
-    reading::check_below(image, pool, n, names)
+    image_words::check_below(image, pool, n, names)
 }
 
 // A type expression, at most `depth` deep.
@@ -46,23 +46,23 @@ pub fn check_type_expr_tree(
     if depth == 0 {
         return Checked { ok: false, next: 0 };
     }
-    let a = reading::check_word(pool, at);
+    let a = image_words::check_word(pool, at);
     if !a.ok {
         return a;
     }
     let n = a.next;
     let d = depth - 1;
-    let k = codes::type_kind(reading::section_word(image, pool, at));
+    let k = codes::type_kind(image_words::section_word(image, pool, at));
     match k {
         TypeKind::Plain => a,
         TypeKind::Sub => pool_types::parts::check_sub(image, pool, n),
         TypeKind::Bits => pool_types::parts::check_bits(image, pool, n, names),
-        TypeKind::Named => reading::check_below(image, pool, n, names),
+        TypeKind::Named => image_words::check_below(image, pool, n, names),
         TypeKind::Qualified => check_qualified(image, pool, n, names),
         TypeKind::Generic => check_expr_part(
             image,
             pool,
-            reading::check_below(image, pool, n, names),
+            image_words::check_below(image, pool, n, names),
             names,
             d,
         ),
@@ -95,7 +95,7 @@ pub fn check_type_expr(image: &[u8], pool: Section, at: usize, names: u32) -> Ch
         return c;
     }
     let n = c.next;
-    if reading::less(n, at) <= 64 {
+    if image_words::less(n, at) <= 64 {
         return c;
     }
     Checked { ok: false, next: 0 }

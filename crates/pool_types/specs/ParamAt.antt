@@ -4,7 +4,7 @@ use mathlib.Core.List.{List}
 use Rattle.rules.specs.Syntax.{Param}
 use Rattle.rules.specs.Reader.{Reader}
 use Rattle.rules.specs.ReadTypes.{param}
-use Rattle.reading.specs.Gives.{Gives, Word, then, given, below-then}
+use Rattle.image_words.specs.Gives.{Gives, Word, then, given, below-then}
 
 pub record Param-at {A : Type 0} (names : ℕ) (ws : List ℕ) (Q : A → ℕ → ℕ → Type 0) (p : Param A) (at n : ℕ) : Type 0 where
   pub name-at : Word ws at (p .name)

@@ -9,8 +9,8 @@ use Rattle.rules.specs.Kinds.{type-kind}
 use Rattle.rules.specs.ReadTypes.{sub-byte, wide, bits-inline, type-node, type-tree, resolved-type}
 use Rattle.rules.specs.declared.kinds.TypeKind.{TypeKind}
 use Rattle.rules.proofs.Types.{Stored, within-true, type-exact}
-use Rattle.reading.specs.Gives.{Gives, Word, Below-at, Counted, then, given, failed, so-then, rule-then, word-then, assoc, give-then, below-then, below-gives, many-gives, sized-gives}
-use Rattle.reading.specs.Stands.{Held, held-gives}
+use Rattle.image_words.specs.Gives.{Gives, Word, Below-at, Counted, then, given, failed, so-then, rule-then, word-then, assoc, give-then, below-then, below-gives, many-gives, sized-gives}
+use Rattle.image_words.specs.Stands.{Held, held-gives}
 
 -- the word at `at` is a type's code of kind k
 pub record Node (ws : List ℕ) (at : ℕ) (k : TypeKind) : Type 0 where

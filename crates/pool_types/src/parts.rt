@@ -1,27 +1,27 @@
 // What types are made of besides types: a sub-byte type's words, a length, names.
-use reading::Checked;
-use reading::Section;
+use image_words::Checked;
+use image_words::Section;
 ghost use Prim.Native.Nat.{ℕ};
 ghost use mathlib.Core.List.{List};
 ghost use Rattle.rules.specs.Reader.{many};
 ghost use Rattle.rules.specs.ReadTypes.{sub-byte, wide, name, bits-inline};
-ghost use Rattle.reading.specs.Verdict.{section-words, Lies, Says};
+ghost use Rattle.image_words.specs.Verdict.{section-words, Lies, Says};
 
 // A sub-byte type behind its code: signed 0 or 1, bits 1 to 64.
 pub fn check_sub(image: &[u8], pool: Section, at: usize) -> Checked
     requires { ⌜ Lies (now image) pool ⌝ }
     ensures { λ r. ⌜ Says sub-byte (section-words (now (image .entry)) pool) at r ⌝ }
 {
-    let s = reading::check_below(image, pool, at, 2);
+    let s = image_words::check_below(image, pool, at, 2);
     if !s.ok {
         return s;
     }
     let m = s.next;
-    let n = reading::check_word(pool, m);
+    let n = image_words::check_word(pool, m);
     if !n.ok {
         return n;
     }
-    let bits = reading::section_word(image, pool, m);
+    let bits = image_words::section_word(image, pool, m);
     if (1 <= bits) & (bits <= 64) {
         return n;
     }
@@ -32,12 +32,12 @@ pub fn check_sub(image: &[u8], pool: Section, at: usize) -> Checked
 pub fn check_wide(pool: Section, at: usize) -> Checked
     ensures { λ r. ⌜ ((image : List ℕ) → Lies image pool → Says wide (section-words image pool) at r) ⌝ }
 {
-    let low = reading::check_word(pool, at);
+    let low = image_words::check_word(pool, at);
     if !low.ok {
         return low;
     }
     let m = low.next;
-    reading::check_word(pool, m)
+    image_words::check_word(pool, m)
 }
 
 // A count, at most `most`, and so many names.
@@ -45,15 +45,15 @@ pub fn check_names(image: &[u8], pool: Section, at: usize, names: u32, most: u32
     requires { ⌜ Lies (now image) pool ⌝ }
     ensures { λ r. ⌜ Says (many most (name names)) (section-words (now (image .entry)) pool) at r ⌝ }
 {
-    let n = reading::check_count(image, pool, at, most);
+    let n = image_words::check_count(image, pool, at, most);
     if !n.ok {
         return n;
     }
-    let count = reading::section_word(image, pool, at);
+    let count = image_words::section_word(image, pool, at);
     let mut i = 0;
     let mut next = n.next;
     while i < count {
-        let a = reading::check_below(image, pool, next, names);
+        let a = image_words::check_below(image, pool, next, names);
         if !a.ok {
             return a;
         }

@@ -1,10 +1,10 @@
 // Resolved types in the pool.
-use reading::Checked;
-use reading::Section;
+use image_words::Checked;
+use image_words::Section;
 use rules::kinds::TypeKind;
 ghost use Rattle.rules.specs.Reader.{maybe};
 ghost use Rattle.rules.specs.ReadTypes.{type-tree, resolved-type};
-ghost use Rattle.reading.specs.Verdict.{section-words, Lies, Says, After};
+ghost use Rattle.image_words.specs.Verdict.{section-words, Lies, Says, After};
 
 // A resolved type, at most `depth` deep, behind what h found.
 pub fn check_part(image: &[u8], pool: Section, h: Checked, names: u32, depth: u32) -> Checked
@@ -26,18 +26,18 @@ pub fn check_tree(image: &[u8], pool: Section, at: usize, names: u32, depth: u32
     if depth == 0 {
         return Checked { ok: false, next: 0 };
     }
-    let a = reading::check_word(pool, at);
+    let a = image_words::check_word(pool, at);
     if !a.ok {
         return a;
     }
     let n = a.next;
     let d = depth - 1;
-    let k = codes::type_kind(reading::section_word(image, pool, at));
+    let k = codes::type_kind(image_words::section_word(image, pool, at));
     match k {
         TypeKind::Plain => a,
         TypeKind::Sub => crate::parts::check_sub(image, pool, n),
         TypeKind::Bits => crate::parts::check_bits(image, pool, n, names),
-        TypeKind::Named => reading::check_word(pool, n),
+        TypeKind::Named => image_words::check_word(pool, n),
         TypeKind::Qualified => Checked { ok: false, next: 0 },
         TypeKind::Generic => Checked { ok: false, next: 0 },
         TypeKind::One => check_tree(image, pool, n, names, d),
@@ -57,7 +57,7 @@ pub fn check_type(image: &[u8], pool: Section, at: usize, names: u32) -> Checked
         return c;
     }
     let n = c.next;
-    if reading::less(n, at) <= 64 {
+    if image_words::less(n, at) <= 64 {
         return c;
     }
     Checked { ok: false, next: 0 }
@@ -68,11 +68,11 @@ pub fn check_maybe_type(image: &[u8], pool: Section, at: usize, names: u32) -> C
     requires { ⌜ Lies (now image) pool ⌝ }
     ensures { λ r. ⌜ Says (maybe (resolved-type names)) (section-words (now (image .entry)) pool) at r ⌝ }
 {
-    let f = reading::check_below(image, pool, at, 2);
+    let f = image_words::check_below(image, pool, at, 2);
     if !f.ok {
         return f;
     }
-    if reading::section_word(image, pool, at) == 0 {
+    if image_words::section_word(image, pool, at) == 0 {
         return f;
     }
     let n = f.next;

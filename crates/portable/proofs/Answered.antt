@@ -12,12 +12,12 @@ use Rattle.rules.specs.Syntax.{CompiledSchema}
 use Rattle.rules.specs.Image.{readable}
 use Rattle.rules.specs.Refusal.{Result, refusal}
 use Rattle.rules.specs.Answer.{Answer, refused, finished, answered, project-answer, signatures-answer}
-use Rattle.layout.specs.Rows.{Cut}
-use Rattle.layout.specs.Open.{Open}
-use Rattle.front.specs.declared.Front.{Front}
-use Rattle.front.specs.Fronts.{Fronts}
-use Rattle.calls.specs.declared.Call.{Call}
-use Rattle.calls.specs.Calls.{call-of, answer-for}
+use Rattle.image_layout.specs.Rows.{Cut}
+use Rattle.image_layout.specs.Open.{Open}
+use Rattle.call_open.specs.declared.Front.{Front}
+use Rattle.call_open.specs.Fronts.{Fronts}
+use Rattle.call_answer.specs.declared.Call.{Call}
+use Rattle.call_answer.specs.Calls.{call-of, answer-for}
 
 -- a call's answer
 pub answer-is : (c : Call) (image : List ℕ) (number : ℕ) (output detail : List ℕ) → answer-for c image number output detail ≡ answered (call-of c number) image output detail

@@ -1,11 +1,11 @@
 // The public calls: an image, an implementation's number and two lent buffers in, an answer out.
 use answers::answer::Answer;
-use calls::Call;
+use call_answer::Call;
 use rules::ids::TypeId;
 ghost use mathlib.Core.Path.{_≡_};
 ghost use Rattle.rules.specs.Answer.{project-answer, signatures-answer};
 ghost use Rattle.answers.specs.Answers.{answer-of};
-ghost use Rattle.calls.specs.Calls.{answer-for};
+ghost use Rattle.call_answer.specs.Calls.{answer-for};
 
 // Either call.
 pub fn answer(
@@ -17,12 +17,12 @@ pub fn answer(
 ) -> Answer
     ensures { λ r. ⌜ answer-of r (now (output .exit)) (now (detail .exit)) ≡ answer-for call (now (image .entry)) (number .0) (now (output .entry)) (now (detail .entry)) ⌝ }
 {
-    let f = front::look(image, detail.len());
+    let f = call_open::look(image, detail.len());
     if f.number != 0 {
         return answers::answer::alone(f.number);
     }
     let l = f.layout;
-    calls::answer_readable(call, image, l, number, output, detail)
+    call_answer::answer_readable(call, image, l, number, output, detail)
 }
 
 // The signatures that an implementation's trait asks for.

@@ -1,6 +1,6 @@
 // The typed functions of an image's lowest implementation.
-use calls::Call;
+use call_answer::Call;
 
 fn main() {
-    asking::call::run(Call::Projection);
+    programs::call::run(Call::Projection);
 }

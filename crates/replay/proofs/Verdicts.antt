@@ -11,9 +11,9 @@ use Rattle.rules.specs.Answer as rules
 use Rattle.words.specs.Words.{word-at}
 use Rattle.answers.specs.declared.answer.Answer.{Answer}
 use Rattle.answers.specs.Answers.{answer-of}
-use Rattle.calls.specs.Calls.{answer-for}
-use Rattle.cases.specs.declared.case.Case.{Case}
-use Rattle.cases.specs.Cases.{Askable, case-at}
+use Rattle.call_answer.specs.Calls.{answer-for}
+use Rattle.replay_cases.specs.declared.case.Case.{Case}
+use Rattle.replay_cases.specs.Cases.{Askable, case-at}
 use Rattle.replay.specs.declared.asked.Compared.{Compared}
 use Rattle.replay.specs.declared.Tally.{Tally}
 use Rattle.replay.specs.declared.Total.{Total}

@@ -8,11 +8,11 @@ use Rattle.rules.specs.Words.{same}
 use Rattle.rules.specs.Answer as rules
 use Rattle.words.specs.Words.{word-at}
 use Rattle.answers.specs.declared.answer.Answer.{Answer}
-use Rattle.calls.specs.declared.Call.{Call}
-use Rattle.calls.specs.Calls.{answer-for}
-use Rattle.cases.specs.declared.case.Part.{Part}
-use Rattle.cases.specs.declared.case.Case.{Case}
-use Rattle.cases.specs.Cases.{case-at}
+use Rattle.call_answer.specs.declared.Call.{Call}
+use Rattle.call_answer.specs.Calls.{answer-for}
+use Rattle.replay_cases.specs.declared.case.Part.{Part}
+use Rattle.replay_cases.specs.declared.case.Case.{Case}
+use Rattle.replay_cases.specs.Cases.{case-at}
 use Rattle.replay.specs.declared.asked.Compared.{Compared}
 use Rattle.replay.specs.declared.Tally.{Tally}
 use Rattle.replay.specs.declared.Total.{Total}

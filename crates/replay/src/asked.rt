@@ -1,16 +1,16 @@
 // A case asked again, and its answer compared.
 use answers::answer::Answer;
-use cases::buffers::holds;
-use cases::case::Case;
-use cases::case::MOST_DETAIL;
-use cases::case::MOST_OUTPUT;
+use replay_cases::buffers::holds;
+use replay_cases::case::Case;
+use replay_cases::case::MOST_DETAIL;
+use replay_cases::case::MOST_OUTPUT;
 use rules::ids::TypeId;
 ghost use Prim.Native.Nat.{_+_, _≤_};
 ghost use mathlib.Core.Path.{_≡_};
 ghost use lib.ListN.{length};
 ghost use Rattle.answers.specs.Answers.{answer-of};
-ghost use Rattle.calls.specs.Calls.{answer-for};
-ghost use Rattle.cases.specs.Cases.{Askable};
+ghost use Rattle.call_answer.specs.Calls.{answer-for};
+ghost use Rattle.replay_cases.specs.Cases.{Askable};
 ghost use Rattle.replay.specs.Replayed.{which-call, part, stored-fields, judged, compared, agrees};
 
 // The calls as the file names them.
@@ -70,12 +70,16 @@ fn ask(file: &[u8], c: Case, output: &mut [u8], detail: &mut [u8]) -> Compared
     requires { ⌜ (c .fields ≤ length (now file)) × (length (now output) ≤ 65536) × (length (now detail) ≤ 1024) ⌝ }
     ensures { λ r. ⌜ r ≡ judged (now (file .entry)) c (answer-for (which-call (c .call)) (part (now (file .entry)) (c .image)) (c .row .0) (now (output .entry)) (now (detail .entry))) (length (now (output .entry)) + length (now (detail .entry))) ⌝ }
 {
-    let image = cases::case::bytes(file, c.image);
+    let image = replay_cases::case::bytes(file, c.image);
     let a = answer(c.call, image, c.row, output, detail);
     Compared {
         fields: same_fields(file, c.fields, a),
-        output: holds(output, cases::case::bytes(file, c.written), OUTPUT_FILL),
-        detail: holds(detail, cases::case::bytes(file, c.told), DETAIL_FILL),
+        output: holds(
+            output,
+            replay_cases::case::bytes(file, c.written),
+            OUTPUT_FILL,
+        ),
+        detail: holds(detail, replay_cases::case::bytes(file, c.told), DETAIL_FILL),
         answer: a,
         bytes: output.len() + detail.len(),
     }

@@ -4,13 +4,13 @@ mod asked;
 mod told;
 
 use asked::Compared;
-use cases::case;
-use cases::case::Case;
-use cases::labels;
+use replay_cases::case;
+use replay_cases::case::Case;
+use replay_cases::labels;
 ghost use Prim.Native.Nat.{_+_, _<_, _^_};
 ghost use mathlib.Core.Path.{_≡_};
 ghost use lib.ListN.{length};
-ghost use Rattle.cases.specs.Cases.{Askable};
+ghost use Rattle.replay_cases.specs.Cases.{Askable};
 ghost use Rattle.replay.specs.Replayed.{tallied, counted-of, none-yet, total-of};
 
 // What was compared, and how many cases differ.
@@ -115,9 +115,9 @@ fn room() -> [u8; 1048576]
 
 fn main() {
     let mut file = room();
-    let of_file = asking::input::read_file(b"cases.bin", &mut file);
+    let of_file = programs::input::read_file(b"cases.bin", &mut file);
     let mut names = io::large_buffer();
-    let of_names = asking::input::read_file(b"labels.txt", &mut names);
+    let of_names = programs::input::read_file(b"labels.txt", &mut names);
     let n = of_file.len;
     let m = of_names.len;
     let ok = of_file.ok & of_names.ok;

@@ -1,8 +1,8 @@
 // What the replay writes.
 use crate::asked::Compared;
-use asking::lines::print_fields;
-use asking::lines::print_number;
 use libc::STDOUT_FILENO;
+use programs::lines::print_fields;
+use programs::lines::print_number;
 
 fn text(bytes: &[u8]) {
     io::write_all(STDOUT_FILENO, bytes);

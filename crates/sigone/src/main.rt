@@ -1,6 +1,6 @@
 // The signatures that the trait of an image's lowest implementation asks for.
-use calls::Call;
+use call_answer::Call;
 
 fn main() {
-    asking::call::run(Call::Signatures);
+    programs::call::run(Call::Signatures);
 }

@@ -5,7 +5,7 @@ use mathlib.Core.List.{List}
 use mathlib.Core.Option.{Option, none, some}
 use native.Mathlib.Omega.{arith}
 use lib.ListN.{length, getD}
-use Rattle.reading.specs.Gives.{Maybe-at}
+use Rattle.image_words.specs.Gives.{Maybe-at}
 
 -- r is the place behind it
 module _ {A : Type 0} (ws : List ℕ) (Q : A → ℕ → ℕ → Type 0) (o : Option A) (at n : ℕ) (h : Maybe-at ws Q o at n) where

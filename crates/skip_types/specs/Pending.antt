@@ -4,7 +4,7 @@ use mathlib.Core.Path.{_≡_, refl, sym, ap, subst}
 use mathlib.Core.List.{List, [], _∷_, _++_}
 use native.Mathlib.Omega.{arith}
 use lib.ListN.{length, length-append}
-use Rattle.reading.specs.Gives.{Row}
+use Rattle.image_words.specs.Gives.{Row}
 
 -- p things stand from `at` on, each by Q, and end before n
 pub record Pending {A : Type 0} (Q : A → ℕ → ℕ → Type 0) (p at n : ℕ) : Type 0 where

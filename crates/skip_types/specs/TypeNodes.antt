@@ -7,7 +7,7 @@ use lib.ListN.{length, getD}
 use Rattle.rules.specs.Syntax.{ResolvedType, TypeExpr}
 use Rattle.rules.specs.Kinds.{type-kind}
 use Rattle.rules.specs.declared.kinds.TypeKind.{TypeKind}
-use Rattle.reading.specs.Gives.{Row, Below-at}
+use Rattle.image_words.specs.Gives.{Row, Below-at}
 use Rattle.pool_type_exprs.specs.TypeExprAt.{Type-expr-at, expr-shape, expr-shape-at}
 use Rattle.skip_types.specs.declared.Node.{Node}
 use Rattle.skip_types.specs.Pending.{Pending, none-left, one-left, two-left, moved}

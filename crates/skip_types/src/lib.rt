@@ -1,13 +1,13 @@
 // The place behind types and type expressions, by counting: on an image that is known to be readable no word is tested again.
-use reading::Section;
+use image_words::Section;
 use rules::kinds::TypeKind;
 ghost use mathlib.Core.Path.{_≡_};
 ghost use mathlib.Core.Option.{Option};
 ghost use Prim.Native.Nat.{ℕ, _+_, _<_};
 ghost use lib.ListN.{getD};
 ghost use Rattle.rules.specs.Syntax.{ResolvedType, TypeExpr};
-ghost use Rattle.reading.specs.Verdict.{section-words, Lies};
-ghost use Rattle.reading.specs.Gives.{Maybe-at};
+ghost use Rattle.image_words.specs.Verdict.{section-words, Lies};
+ghost use Rattle.image_words.specs.Gives.{Maybe-at};
 ghost use Rattle.pool_types.specs.TypeAt.{Type-at, Type-stands};
 ghost use Rattle.pool_type_exprs.specs.TypeExprAt.{Type-expr-at};
 ghost use Rattle.skip_types.specs.Pending.{Pending};
@@ -28,7 +28,7 @@ fn type_node(image: &[u8], pool: Section, at: usize, k: TypeKind) -> Node
         TypeKind::Plain => Node { words: 1, parts: 0 },
         TypeKind::Sub => Node { words: 3, parts: 0 },
         TypeKind::Bits => Node {
-            words: 2 + reading::section_word(image, pool, at + 1) as usize,
+            words: 2 + image_words::section_word(image, pool, at + 1) as usize,
             parts: 0,
         },
         TypeKind::Named => Node { words: 2, parts: 0 },
@@ -52,7 +52,7 @@ pub fn skip_types(image: &[u8], pool: Section, at: usize, count: u32) -> usize
         if pool.len <= next {
             return next;
         }
-        let k = codes::type_kind(reading::section_word(image, pool, next));
+        let k = codes::type_kind(image_words::section_word(image, pool, next));
         let node = type_node(image, pool, next, k);
         next += node.words;
         pending = pending - 1 + node.parts;
@@ -77,7 +77,7 @@ pub fn skip_maybe_type(image: &[u8], pool: Section, at: usize) -> usize
     if pool.len <= at {
         return at;
     }
-    if reading::section_word(image, pool, at) == 0 {
+    if image_words::section_word(image, pool, at) == 0 {
         return at + 1;
     }
     skip_type(image, pool, at + 1)

@@ -9,8 +9,8 @@ use Rattle.rules.specs.Syntax.{ResolvedType, TypeExpr, Param, CompiledSchema}
 use Rattle.rules.specs.Substitute.{Counted, too-large, done, substitute-type}
 use Rattle.laws.specs.Visits.{cut, plain-depth, compared-once}
 use Rattle.laws.specs.Depth.{resolves}
-use Rattle.held.specs.declared.types.HeldType.{HeldType}
-use Rattle.held.specs.Holds.{Holds}
+use Rattle.type_words.specs.declared.HeldType.{HeldType}
+use Rattle.type_words.specs.Holds.{Holds}
 use Rattle.subst_leaves.specs.declared.Resolved.{Resolved}
 use Rattle.subst.specs.declared.whole.Substituted.{Substituted}
 use Rattle.subst_leaves.specs.Says.{Fails, Says}

@@ -10,14 +10,14 @@ use Rattle.rules.specs.Syntax.{ResolvedType, TypeExpr, Param, CompiledSchema}
 use Rattle.rules.specs.Types.{POISON}
 use Rattle.rules.specs.Substitute.{after, lookup-alias}
 use Rattle.laws.specs.Visits.{Rec, short, plain-expand, plain-node}
-use Rattle.reading.specs.Steps.{true-false}
-use Rattle.held.specs.declared.types.HeldType.{HeldType}
-use Rattle.held.specs.Holds.{Holds}
-use Rattle.scope.specs.Views.{Views, Written}
-use Rattle.scope.specs.Tables.{Rows-to, rows-more, views-taken}
-use Rattle.lookups.specs.declared.generic.Alias.{Alias}
-use Rattle.stored.specs.Held.{Expr-stands}
-use Rattle.lookups.specs.Aliases.{IsAlias}
+use Rattle.image_words.specs.Steps.{true-false}
+use Rattle.type_words.specs.declared.HeldType.{HeldType}
+use Rattle.type_words.specs.Holds.{Holds}
+use Rattle.subst_params.specs.Views.{Views, Written}
+use Rattle.subst_params.specs.Tables.{Rows-to, rows-more, views-taken}
+use Rattle.subst_names.specs.declared.generic.Alias.{Alias}
+use Rattle.type_from_pool.specs.Held.{Expr-stands}
+use Rattle.subst_names.specs.Aliases.{IsAlias}
 
 module _ (s : CompiledSchema) (rec : Rec) (ps : List (Param ResolvedType)) (x : ℕ) (a : TypeExpr) where
   pub is-poison : lookup-alias s x ≡ none → plain-node s rec ps (TypeExpr.generic x a) ≡ short 1 POISON

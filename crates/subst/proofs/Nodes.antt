@@ -12,10 +12,10 @@ use Rattle.rules.specs.Substitute.{Counted, too-large, done}
 use Rattle.rules.specs.declared.kinds.TypeKind.{TypeKind}
 use Rattle.laws.specs.Visits.{plain-node, plain-depth}
 use Rattle.laws.specs.Depth.{enough}
-use Rattle.reading.specs.Sections.{length-section}
-use Rattle.layout.specs.declared.Layout.{Layout}
-use Rattle.layout.specs.Open.{pool-words}
-use Rattle.stored.specs.Heads.{expr-head, expr-inside}
+use Rattle.image_words.specs.Sections.{length-section}
+use Rattle.image_layout.specs.declared.Layout.{Layout}
+use Rattle.image_layout.specs.Open.{pool-words}
+use Rattle.type_from_pool.specs.Heads.{expr-head, expr-inside}
 use Rattle.pool_type_exprs.specs.TypeExprAt.{expr-shape}
 use Rattle.subst_leaves.specs.declared.Resolved.{Resolved}
 use Rattle.subst_leaves.specs.Says.{Fails, Says}

@@ -5,11 +5,11 @@ use mathlib.Core.Bool.{true, false}
 use mathlib.Core.List.{List}
 use Rattle.rules.specs.Syntax.{ResolvedType, TypeExpr, Param, CompiledSchema}
 use Rattle.rules.specs.Substitute.{Counted, too-large, done, substitute-type}
-use Rattle.layout.specs.declared.Layout.{Layout}
-use Rattle.layout.specs.Open.{Open, pool-words}
-use Rattle.held.specs.Holds.{Holds}
-use Rattle.scope.specs.Views.{Views}
-use Rattle.stored.specs.Held.{Expr-stands}
+use Rattle.image_layout.specs.declared.Layout.{Layout}
+use Rattle.image_layout.specs.Open.{Open, pool-words}
+use Rattle.type_words.specs.Holds.{Holds}
+use Rattle.subst_params.specs.Views.{Views}
+use Rattle.type_from_pool.specs.Held.{Expr-stands}
 use Rattle.subst.specs.declared.whole.Substituted.{Substituted}
 
 abbrev pub Answers : ℕ → ℕ → Counted ResolvedType → Substituted → Type 0

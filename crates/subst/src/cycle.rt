@@ -1,12 +1,12 @@
 // Nodes with parts: the resolver and the expander of generic aliases, which call each other. The visits left fall with each node read.
-use held::types::HeldType;
-use layout::Layout;
+use image_layout::Layout;
 use rules::ids::NameId;
 use rules::kinds::TypeKind;
 use subst_leaves::Resolved;
 use subst_leaves::failed;
+use type_words::HeldType;
 ghost use Prim.Native.Nat.{_<_};
-ghost use Rattle.layout.specs.Rows.{Cut};
+ghost use Rattle.image_layout.specs.Rows.{Cut};
 ghost use Rattle.subst_leaves.specs.Says.{Keeps};
 ghost use Rattle.subst_leaves.specs.Nodes.{Substitutes, Ones, Fixeds, Twos, Generics};
 
@@ -21,7 +21,7 @@ fn one(image: &[u8], l: Layout, at: usize, left: u32, params: &[u32]) -> Resolve
     }
     let pool = l.pool;
     let x = a.ty;
-    let g = HeldType::one(reading::section_word(image, pool, at), x);
+    let g = HeldType::one(image_words::section_word(image, pool, at), x);
     let ty = g.ty;
     Resolved {
         ok: g.ok,
@@ -41,8 +41,8 @@ fn fixed(image: &[u8], l: Layout, at: usize, left: u32, params: &[u32]) -> Resol
         return a;
     }
     let pool = l.pool;
-    let low = reading::section_word(image, pool, at + 1);
-    let high = reading::section_word(image, pool, at + 1 + 1);
+    let low = image_words::section_word(image, pool, at + 1);
+    let high = image_words::section_word(image, pool, at + 1 + 1);
     let x = a.ty;
     let g = HeldType::fixed(low, high, x);
     let ty = g.ty;
@@ -72,7 +72,7 @@ fn two(image: &[u8], l: Layout, at: usize, left: u32, params: &[u32]) -> Resolve
     let pool = l.pool;
     let x = a.ty;
     let y = b.ty;
-    let g = HeldType::two(reading::section_word(image, pool, at), x, y);
+    let g = HeldType::two(image_words::section_word(image, pool, at), x, y);
     let ty = g.ty;
     Resolved {
         ok: g.ok,
@@ -88,8 +88,8 @@ fn expand(image: &[u8], l: Layout, at: usize, left: u32, params: &[u32]) -> Reso
     ensures { λ r. ⌜ Keeps left r (Generics (now (image .entry)) l at left (now (params .entry)) r) ⌝ }
 {
     let pool = l.pool;
-    let x = NameId(reading::section_word(image, pool, at + 1));
-    let alias = lookups::generic::lookup_alias(image, l, x);
+    let x = NameId(image_words::section_word(image, pool, at + 1));
+    let alias = subst_names::generic::lookup_alias(image, l, x);
     if !alias.some {
         return subst_leaves::poison(image, l, at + 1 + 1, left);
     }
@@ -98,9 +98,9 @@ fn expand(image: &[u8], l: Layout, at: usize, left: u32, params: &[u32]) -> Reso
         return a;
     }
     let argument = a.ty;
-    let mut own = [0u32; scope::ROW];
-    scope::write_row(&mut own, 0, alias.param, argument);
-    let view = scope::rows(&own, 1);
+    let mut own = [0u32; subst_params::ROW];
+    subst_params::write_row(&mut own, 0, alias.param, argument);
+    let view = subst_params::rows(&own, 1);
     let target = alias.target;
     let rest = a.left;
     let b = substitute_type(image, l, target, rest, view);
@@ -124,7 +124,7 @@ pub fn substitute_type(image: &[u8], l: Layout, at: usize, left: u32, params: &[
     if pool.len <= at {
         return failed();
     }
-    let k = codes::type_kind(reading::section_word(image, pool, at));
+    let k = codes::type_kind(image_words::section_word(image, pool, at));
     match k {
         TypeKind::Plain => subst_leaves::leaf(image, l, at, left - 1),
         TypeKind::Sub => subst_leaves::leaf(image, l, at, left - 1),

@@ -1,7 +1,7 @@
 // A whole expression's answer.
-use held::types::HeldType;
-use layout::Layout;
-ghost use Rattle.layout.specs.Rows.{Cut};
+use image_layout::Layout;
+use type_words::HeldType;
+ghost use Rattle.image_layout.specs.Rows.{Cut};
 ghost use Rattle.subst.specs.Answers.{AnswersAll};
 
 // Whether an expression keeps the bounds; then its visits, the place behind it, and its type.

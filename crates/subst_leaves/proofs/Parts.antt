@@ -9,10 +9,10 @@ use Rattle.rules.specs.Kinds.{type-kind}
 use Rattle.rules.specs.declared.kinds.TypeKind.{TypeKind}
 use Rattle.rules.proofs.Good.{GoodExpr}
 use Rattle.rules.proofs.Types.{Stored}
-use Rattle.reading.specs.Stands.{Stands}
+use Rattle.image_words.specs.Stands.{Stands}
 use Rattle.pool_type_exprs.specs.TypeExprAt.{expr-shape}
-use Rattle.reading.specs.Heads.{head, tail, first, second}
-use Rattle.stored.specs.Held.{Expr-stands}
+use Rattle.image_words.specs.Heads.{head, tail, first, second}
+use Rattle.type_from_pool.specs.Held.{Expr-stands}
 
 module _ (names : ℕ) (ws : List ℕ) (at n : ℕ) where
   -- a name

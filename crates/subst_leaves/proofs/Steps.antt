@@ -9,10 +9,10 @@ use lib.Dec.{leb}
 use Rattle.rules.specs.Syntax.{ResolvedType, run}
 use Rattle.rules.specs.Substitute.{Counted, too-large, done, after}
 use Rattle.laws.specs.Visits.{short}
-use Rattle.reading.specs.Steps.{true-false}
-use Rattle.held.specs.declared.types.HeldType.{HeldType}
-use Rattle.held.specs.declared.types.Grown.{Grown}
-use Rattle.held.specs.Holds.{Holds, Built}
+use Rattle.image_words.specs.Steps.{true-false}
+use Rattle.type_words.specs.declared.HeldType.{HeldType}
+use Rattle.type_words.specs.declared.Grown.{Grown}
+use Rattle.type_words.specs.Holds.{Holds, Built}
 use Rattle.subst_leaves.specs.declared.Resolved.{Resolved}
 use Rattle.subst_leaves.specs.Says.{Fails, Says}
 

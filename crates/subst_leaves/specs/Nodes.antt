@@ -5,10 +5,10 @@ use Rattle.rules.specs.Syntax.{ResolvedType, TypeExpr, Param, CompiledSchema}
 use Rattle.rules.specs.Types.{POISON}
 use Rattle.rules.specs.Substitute.{lookup-qualified, named-or-poison, resolve-name}
 use Rattle.laws.specs.Visits.{short, plain-node, plain-depth}
-use Rattle.layout.specs.declared.Layout.{Layout}
-use Rattle.layout.specs.Open.{Open, pool-words}
-use Rattle.scope.specs.Views.{Views}
-use Rattle.stored.specs.Held.{Expr-stands}
+use Rattle.image_layout.specs.declared.Layout.{Layout}
+use Rattle.image_layout.specs.Open.{Open, pool-words}
+use Rattle.subst_params.specs.Views.{Views}
+use Rattle.type_from_pool.specs.Held.{Expr-stands}
 use Rattle.subst_leaves.specs.declared.Resolved.{Resolved}
 use Rattle.subst_leaves.specs.Says.{Says}
 

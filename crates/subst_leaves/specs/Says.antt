@@ -4,7 +4,7 @@ use mathlib.Core.Path.{_≡_}
 use mathlib.Core.Bool.{true, false}
 use Rattle.rules.specs.Syntax.{ResolvedType}
 use Rattle.rules.specs.Substitute.{Counted, too-large, done}
-use Rattle.held.specs.Holds.{Holds}
+use Rattle.type_words.specs.Holds.{Holds}
 use Rattle.subst_leaves.specs.declared.Resolved.{Resolved}
 
 -- o passes a bound: a run on the way is too long, or the visits are more than are left

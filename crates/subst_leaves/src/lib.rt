@@ -1,12 +1,12 @@
 // Nodes with no part to resolve. Their visit is taken off already.
-use held::types::HeldType;
-use layout::Layout;
+use image_layout::Layout;
 use rules::ids::NameId;
 use rules::ids::TypeId;
+use type_words::HeldType;
 ghost use Prim.Native.Nat.{_<_};
 ghost use mathlib.Core.Path.{_≡_};
 ghost use mathlib.Core.Bool.{false};
-ghost use Rattle.layout.specs.Rows.{Inside, Cut};
+ghost use Rattle.image_layout.specs.Rows.{Inside, Cut};
 ghost use Rattle.subst_leaves.specs.Says.{Keeps};
 ghost use Rattle.subst_leaves.specs.Nodes.{Leaves, Names, Qualifieds, Poisons};
 
@@ -34,7 +34,7 @@ pub fn leaf(image: &[u8], l: Layout, at: usize, left: u32) -> Resolved
     requires { ⌜ Inside (now image) l ⌝ }
     ensures { λ r. ⌜ Keeps left r (Leaves (now (image .entry)) l at left r) ⌝ }
 {
-    let h = stored::hold_type(image, l, at);
+    let h = type_from_pool::hold_type(image, l, at);
     let ty = h.ty;
     Resolved {
         ok: true,
@@ -49,12 +49,12 @@ pub fn named(image: &[u8], l: Layout, at: usize, left: u32, params: &[u32]) -> R
     ensures { λ r. ⌜ Keeps left r (Names (now (image .entry)) l at left (now (params .entry)) r) ⌝ }
 {
     let pool = l.pool;
-    let x = NameId(reading::section_word(image, pool, at + 1));
+    let x = NameId(image_words::section_word(image, pool, at + 1));
     Resolved {
         ok: true,
         next: at + 1 + 1,
         left,
-        ty: lookups::names::resolve_name(image, l, params, x),
+        ty: subst_names::names::resolve_name(image, l, params, x),
     }
 }
 
@@ -63,13 +63,13 @@ pub fn qualified(image: &[u8], l: Layout, at: usize, left: u32) -> Resolved
     ensures { λ r. ⌜ Keeps left r (Qualifieds (now (image .entry)) l at left r) ⌝ }
 {
     let pool = l.pool;
-    let namespace = NameId(reading::section_word(image, pool, at + 1));
-    let x = NameId(reading::section_word(image, pool, at + 1 + 1));
+    let namespace = NameId(image_words::section_word(image, pool, at + 1));
+    let x = NameId(image_words::section_word(image, pool, at + 1 + 1));
     Resolved {
         ok: true,
         next: at + 1 + 1 + 1,
         left,
-        ty: lookups::names::resolve_qualified(image, l, namespace, x),
+        ty: subst_names::names::resolve_qualified(image, l, namespace, x),
     }
 }
 

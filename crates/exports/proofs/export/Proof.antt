@@ -2,7 +2,7 @@
 use borrow.Author.Needs.{needs}
 use native.Mathlib.Omega.{arith}
 use denote.Ref.{now}
-use Rattle.blocks.proofs.Blocks.{exported, exported-short}
+use Rattle.export_block.proofs.Blocks.{exported, exported-short}
 use Rattle.exports.proofs.export.Statement.{statement}
 use Rattle.exports.proofs.export.Tie as tie
 

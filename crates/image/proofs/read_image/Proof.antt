@@ -1,7 +1,7 @@
 -- `image::read_image` meets its contract. Assumes nothing.
 use mathlib.Core.Path.{ap}
-use Rattle.layout.specs.declared.Layout.{Layout}
-use Rattle.layout.specs.declared.Opened.{Opened}
+use Rattle.image_layout.specs.declared.Layout.{Layout}
+use Rattle.image_layout.specs.declared.Opened.{Opened}
 use borrow.Author.Tests.{not-true, not-false}
 use Rattle.image.proofs.Reading.{refused, settled}
 use borrow.Author.Needs.{needs}

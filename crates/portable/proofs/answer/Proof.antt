@@ -2,7 +2,7 @@
 use borrow.Author.Needs.{needs}
 use mathlib.Core.Path.{sym, _∙_}
 use denote.Ref.{now}
-use Rattle.calls.specs.Calls.{call-of}
+use Rattle.call_answer.specs.Calls.{call-of}
 use Rattle.portable.proofs.Answered.{answer-is, when-readable, front-refused, goes}
 use Rattle.portable.proofs.answer.Statement.{statement}
 use Rattle.portable.proofs.answer.Tie as tie

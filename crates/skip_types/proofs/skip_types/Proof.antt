@@ -4,8 +4,8 @@ use Prim.Native.Nat.{ℕ, _+_, _-_, _≤_}
 use mathlib.Core.Path.{refl, ap, _∙_}
 use native.Mathlib.Omega.{arith}
 use Rattle.rules.specs.Kinds.{type-kind}
-use Rattle.reading.specs.Verdict.{section-words}
-use Rattle.reading.specs.Sections.{length-section}
+use Rattle.image_words.specs.Verdict.{section-words}
+use Rattle.image_words.specs.Sections.{length-section}
 use Rattle.pool_type_exprs.specs.TypeExprAt.{Type-expr-at}
 use Rattle.skip_types.specs.Pending.{Pending, ended, of-first, turned}
 use Rattle.skip_types.specs.TypeNodes.{type-parts, type-inside}

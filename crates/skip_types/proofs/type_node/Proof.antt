@@ -6,8 +6,8 @@ use mathlib.Core.List.{List}
 use lib.ListN.{getD}
 use native.Mathlib.Omega.{arith}
 use Rattle.rules.specs.declared.kinds.TypeKind.{TypeKind}
-use Rattle.reading.specs.declared.Section.{Section}
-use Rattle.reading.specs.Verdict.{section-words}
+use Rattle.image_words.specs.declared.Section.{Section}
+use Rattle.image_words.specs.Verdict.{section-words}
 use Rattle.skip_types.specs.TypeNodes.{type-node}
 use Rattle.skip_types.proofs.type_node.Statement.{statement}
 use Rattle.skip_types.proofs.type_node.Tie as tie

@@ -4,7 +4,7 @@ use mathlib.Core.Path.{_≡_, refl, subst, _∙_}
 use native.Mathlib.Omega.{arith}
 use borrow.Author.Needs.{needs}
 use Rattle.rules.specs.Substitute.{resolve-name}
-use Rattle.held.specs.Holds.{Holds}
+use Rattle.type_words.specs.Holds.{Holds}
 use Rattle.subst_leaves.proofs.Parts.{named-stands}
 use Rattle.subst_leaves.proofs.Steps.{one-visit}
 use Rattle.subst_leaves.proofs.named.Statement.{statement}

@@ -4,9 +4,9 @@ use native.Mathlib.Omega.{arith}
 use borrow.Author.Needs.{needs}
 use Rattle.rules.specs.Types.{POISON}
 use Rattle.laws.specs.TypeExprs.{type-expr-exact}
-use Rattle.held.proofs.Trees.{named-holds}
-use Rattle.reading.specs.Gives.{of}
-use Rattle.reading.specs.Stands.{reads-at}
+use Rattle.type_words.proofs.Trees.{named-holds}
+use Rattle.image_words.specs.Gives.{of}
+use Rattle.image_words.specs.Stands.{reads-at}
 use Rattle.pool_type_exprs.specs.TypeExprAt.{type-expr-gives}
 use Rattle.subst_leaves.proofs.Steps.{one-visit}
 use Rattle.subst_leaves.proofs.poison.Statement.{statement}

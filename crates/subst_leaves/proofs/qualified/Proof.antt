@@ -4,7 +4,7 @@ use mathlib.Core.Path.{_≡_, refl, subst₂, _∙_}
 use native.Mathlib.Omega.{arith}
 use borrow.Author.Needs.{needs}
 use Rattle.rules.specs.Substitute.{lookup-qualified, named-or-poison}
-use Rattle.held.specs.Holds.{Holds}
+use Rattle.type_words.specs.Holds.{Holds}
 use Rattle.subst_leaves.proofs.Parts.{qualified-stands}
 use Rattle.subst_leaves.proofs.Steps.{one-visit}
 use Rattle.subst_leaves.proofs.qualified.Statement.{statement}

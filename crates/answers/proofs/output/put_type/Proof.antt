@@ -3,7 +3,7 @@ use native.Mathlib.Omega.{arith}
 use lib.ListN.{length}
 use lib.Seq.{length-take-le}
 use Rattle.answers.specs.Writes.{writes-same}
-use Rattle.held.proofs.Runs.{run-take}
+use Rattle.type_words.proofs.Runs.{run-take}
 use borrow.Author.Needs.{needs}
 use Rattle.answers.proofs.output.put_type.Statement.{statement}
 use Rattle.answers.proofs.output.put_type.Tie as tie

@@ -3,15 +3,15 @@ use borrow.Author.Needs.{needs}
 use mathlib.Core.Path.{_≡_, sym, _∙_}
 use denote.Ref.{now}
 use Rattle.rules.specs.declared.kinds.ExprKind.{ExprKind}
-use Rattle.reading.specs.declared.Checked.{Checked}
+use Rattle.image_words.specs.declared.Checked.{Checked}
 use borrow.Author.Tests.{not-true, not-false}
 use Rattle.rules.specs.ReadBodies.{expr-node}
-use Rattle.reading.specs.Says.{then, stop, last, after-stop, after-goes, after, after-two, given, failed, below-then}
-use Rattle.reading.specs.Trees.{expr-is, tree-deep, tree-stop, tree-then}
+use Rattle.image_words.specs.Says.{then, stop, last, after-stop, after-goes, after, after-two, given, failed, below-then}
+use Rattle.image_words.specs.Trees.{expr-is, tree-deep, tree-stop, tree-then}
 use Prim.Native.Nat.{_-_, _*_, _+_}
 use Rattle.rules.specs.ReadBodies.{exprs, expr-tree}
-use Rattle.reading.specs.Verdict.{section-words, Says, Left}
-use Rattle.reading.specs.Loops.{repeat-all, turn, turn-stop, turn-done}
+use Rattle.image_words.specs.Verdict.{section-words, Says, Left}
+use Rattle.image_words.specs.Loops.{repeat-all, turn, turn-stop, turn-done}
 use Prim.Native.Nat.{ℕ, _<_}
 use borrow.Fn.Kinds.{In}
 use borrow.Fn.PlainCycle.{Measures, is, falls, and}
@@ -32,9 +32,9 @@ use Rattle.pool_bodies.proofs.expressions.check_operand.Kinds as check-
 use Rattle.pool_bodies.proofs.expressions.+check_call+check_expr+check_exprs+check_method+check_operand.Lts-check_operand as check-operand-lts
 use Rattle.codes.proofs.expr_kind.Reads as expr-kind-reads
 use Rattle.pool_types.proofs.parts.check_wide.Reads as check-wide-reads
-use Rattle.reading.proofs.check_below.Reads as check-below-reads
-use Rattle.reading.proofs.check_word.Reads as check-word-reads
-use Rattle.reading.proofs.section_word.Reads as section-word-reads
+use Rattle.image_words.proofs.check_below.Reads as check-below-reads
+use Rattle.image_words.proofs.check_word.Reads as check-word-reads
+use Rattle.image_words.proofs.section_word.Reads as section-word-reads
 use Rattle.pool_bodies.proofs.expressions.+check_call+check_expr+check_exprs+check_method+check_operand.{statement}
 use Rattle.pool_bodies.proofs.expressions.+check_call+check_expr+check_exprs+check_method+check_operand.Tie.{close}
 

@@ -8,8 +8,8 @@ use lib.ListN.{length, take, length-set}
 use lib.Seq.{length-take-le}
 use borrow.Author.Tests.{not-true, not-false}
 use Rattle.rules.specs.Words.{all-different}
-use Rattle.reading.specs.Verdict.{section-words, Left}
-use Rattle.reading.specs.Says.{below-value}
+use Rattle.image_words.specs.Verdict.{section-words, Left}
+use Rattle.image_words.specs.Says.{below-value}
 use Rattle.pool_definitions.specs.Different.{different-functions, different-none, different-more, take-more}
 use Rattle.pool_definitions.proofs.TraitLoop.{rest, functions-refused, functions-start, turn-refused, turn-twice, turn-more, functions-done}
 use Rattle.pool_definitions.proofs.traits.check_trait_functions.Statement.{statement}

@@ -4,12 +4,12 @@ use mathlib.Core.Path.{_≡_, sym, _∙_}
 use Prim.Native.Nat.{_-_, _+_, _*_}
 use denote.Ref.{now}
 use Rattle.rules.specs.declared.kinds.TypeKind.{TypeKind}
-use Rattle.reading.specs.declared.Checked.{Checked}
-use Rattle.reading.specs.Verdict.{section-words, Says}
+use Rattle.image_words.specs.declared.Checked.{Checked}
+use Rattle.image_words.specs.Verdict.{section-words, Says}
 use borrow.Author.Tests.{not-true, not-false}
-use Rattle.reading.specs.Says.{last, after-stop, after-goes, after, given, failed}
+use Rattle.image_words.specs.Says.{last, after-stop, after-goes, after, given, failed}
 use Rattle.rules.specs.ReadTypes.{type-node, type-tree}
-use Rattle.reading.specs.Trees.{type-is, tree-deep, tree-stop, tree-then}
+use Rattle.image_words.specs.Trees.{type-is, tree-deep, tree-stop, tree-then}
 use Prim.Native.Nat.{ℕ, _<_}
 use borrow.Fn.Kinds.{In}
 use borrow.Fn.PlainCycle.{Measures, is, falls, and}
@@ -23,8 +23,8 @@ use Rattle.codes.proofs.type_kind.Reads as type-kind-reads
 use Rattle.pool_types.proofs.parts.check_bits.Reads as check-bits-reads
 use Rattle.pool_types.proofs.parts.check_sub.Reads as check-sub-reads
 use Rattle.pool_types.proofs.parts.check_wide.Reads as check-wide-reads
-use Rattle.reading.proofs.check_word.Reads as check-word-reads
-use Rattle.reading.proofs.section_word.Reads as section-word-reads
+use Rattle.image_words.proofs.check_word.Reads as check-word-reads
+use Rattle.image_words.proofs.section_word.Reads as section-word-reads
 use Rattle.pool_types.proofs.resolved.+check_part+check_tree.{statement}
 use Rattle.pool_types.proofs.resolved.+check_part+check_tree.Tie.{close}
 

@@ -3,7 +3,7 @@ use Prim.Native.Nat.{_+_, _-_, _≤_}
 use native.Mathlib.Omega.{arith}
 use lib.ListN.{length}
 use borrow.Author.Needs.{needs}
-use Rattle.held.specs.Runs.{held-run}
+use Rattle.type_words.specs.Runs.{held-run}
 use Rattle.answers.specs.Refusals.{detail-of}
 use Rattle.answers.proofs.Details.{So-far, run-start, run-room, run-more, run-end}
 use Rattle.answers.proofs.refusal.Refusal.run.Statement.{statement}

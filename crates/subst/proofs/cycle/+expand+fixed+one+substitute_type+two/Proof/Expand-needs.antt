@@ -6,7 +6,7 @@ use Prim.Native.Nat.{ℕ}
 use native.Mathlib.Omega.{arith}
 use Rattle.rules.specs.Substitute.{lookup-alias}
 use Rattle.laws.specs.Visits.{plain-depth}
-use Rattle.layout.specs.Open.{pool-words}
+use Rattle.image_layout.specs.Open.{pool-words}
 use Rattle.subst_leaves.proofs.Parts.{generic-stands}
 use Rattle.subst_leaves.proofs.Steps.{says-as, two-stop, two-as-second}
 use Rattle.subst.proofs.Generic.{is-poison, is-expanded, no-alias, an-alias, one-view}

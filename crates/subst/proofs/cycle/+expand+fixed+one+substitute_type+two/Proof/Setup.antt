@@ -2,14 +2,14 @@
 use Prim.Native.Nat.{ℕ, _+_, _<_}
 use borrow.Fn.Kinds.{In}
 use borrow.Fn.PlainCycle.{Measures, is, falls, and}
-use Rattle.held.proofs.types.HeldType.fixed.Reads as fixed-reads
-use Rattle.held.proofs.types.HeldType.one.Reads as one-reads
-use Rattle.held.proofs.types.HeldType.two.Reads as two-reads
+use Rattle.type_words.proofs.HeldType.fixed.Reads as fixed-reads
+use Rattle.type_words.proofs.HeldType.one.Reads as one-reads
+use Rattle.type_words.proofs.HeldType.two.Reads as two-reads
 use Rattle.codes.proofs.type_kind.Reads as type-kind-reads
-use Rattle.lookups.proofs.generic.lookup_alias.Reads as lookup-alias-reads
-use Rattle.reading.proofs.section_word.Reads as section-word-reads
-use Rattle.scope.proofs.rows.Reads as rows-reads
-use Rattle.scope.proofs.write_row.Reads as write-row-reads
+use Rattle.subst_names.proofs.generic.lookup_alias.Reads as lookup-alias-reads
+use Rattle.image_words.proofs.section_word.Reads as section-word-reads
+use Rattle.subst_params.proofs.rows.Reads as rows-reads
+use Rattle.subst_params.proofs.write_row.Reads as write-row-reads
 use Rattle.subst_leaves.proofs.failed.Reads as failed-reads
 use Rattle.subst_leaves.proofs.leaf.Reads as leaf-reads
 use Rattle.subst_leaves.proofs.named.Reads as named-reads

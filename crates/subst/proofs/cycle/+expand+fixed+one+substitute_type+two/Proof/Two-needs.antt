@@ -6,10 +6,10 @@ use Prim.Native.Nat.{ℕ}
 use native.Mathlib.Omega.{arith}
 use Rattle.rules.specs.Syntax.{ResolvedType}
 use Rattle.laws.specs.Visits.{plain-node, plain-depth}
-use Rattle.layout.specs.Open.{pool-words}
-use Rattle.held.specs.Runs.{held-run, Grows}
-use Rattle.held.proofs.Trees.{two-built}
-use Rattle.stored.specs.Held.{Expr-stands}
+use Rattle.image_layout.specs.Open.{pool-words}
+use Rattle.type_words.specs.Runs.{held-run, Grows}
+use Rattle.type_words.proofs.Trees.{two-built}
+use Rattle.type_from_pool.specs.Held.{Expr-stands}
 use Rattle.subst_leaves.proofs.Parts.{two-stands}
 use Rattle.subst_leaves.proofs.Steps.{two-stop, two-stop-second, two-end}
 use Rattle.subst.proofs.cycle.two.Reads as two

@@ -1,0 +1,70 @@
+// The calls on a readable image: one code for all of them, told which is asked.
+use answers::answer::Answer;
+use answers::answer::Outcome;
+use answers::refusal::Refusal;
+use image_layout::Layout;
+use impl_trait::Subject;
+use rules::ids::NameId;
+use rules::ids::TypeId;
+ghost use Prim.Native.Nat.{_≤_};
+ghost use mathlib.Core.Path.{_≡_};
+ghost use lib.ListN.{length};
+ghost use Rattle.rules.specs.Syntax.{CompiledSchema};
+ghost use Rattle.rules.specs.Answer.{finished};
+ghost use Rattle.image_layout.specs.Rows.{Cut};
+ghost use Rattle.image_layout.specs.Open.{Open};
+ghost use Rattle.image_layout.specs.Opens.{Opens};
+ghost use Rattle.answers.specs.Answers.{answer-of, Comes};
+ghost use Rattle.impl_trait.specs.Subjects.{About};
+ghost use Rattle.project_impl.specs.Asked.{Few};
+ghost use Rattle.call_answer.specs.Calls.{call-of, after-subject};
+
+pub enum Call {
+    Signatures,
+    Projection,
+}
+
+// What comes behind 3 and 4.
+fn after_subject(call: Call, image: &[u8], l: Layout, f: Subject, out: &mut [u8]) -> Outcome
+    requires { ⌜ Cut (now image) l × About (now image) l f ⌝ }
+    ensures { λ r. ⌜ ((a : About (now (image .entry)) l f) → Few (after-subject call (a .schema) (a .impl) (a .trait)) → Comes (after-subject call (a .schema) (a .impl) (a .trait)) (now (out .entry)) (now (out .exit)) r) ⌝ }
+{
+    match call {
+        Call::Signatures => expected_functions::expected_functions(image, l, f.start, f.types, out),
+        Call::Projection => project_impl::project(image, l, f, out),
+    }
+}
+
+// The call's words, as far as they fit.
+fn pass(call: Call, image: &[u8], l: Layout, number: TypeId, out: &mut [u8]) -> Outcome
+    requires { ⌜ Cut (now image) l × Opens (now image) l ⌝ }
+    ensures { λ r. ⌜ ((s : CompiledSchema) → Open (now (image .entry)) l s → Comes (call-of call (number .0) s) (now (out .entry)) (now (out .exit)) r) ⌝ }
+{
+    let f = impl_trait::find_subject(image, l, number);
+    if f.number != 0 {
+        return answers::answer::refused(Refusal::named(f.number, NameId::NONE, f.name));
+    }
+    after_subject(call, image, l, f, out)
+}
+
+// The answer. The first pass keeps its words; where they are too many for that, a second one writes them.
+pub fn answer_readable(
+    call: Call,
+    image: &[u8],
+    l: Layout,
+    number: TypeId,
+    output: &mut [u8],
+    detail: &mut [u8],
+) -> Answer
+    requires { ⌜ Cut (now image) l × Opens (now image) l × (576 ≤ length (now detail)) ⌝ }
+    ensures { λ r. ⌜ ((s : CompiledSchema) → Open (now (image .entry)) l s → answer-of r (now (output .exit)) (now (detail .exit)) ≡ finished (call-of call (number .0) s) (now (output .entry)) (now (detail .entry))) ⌝ }
+{
+    let mut first = [0u8; 16384];
+    let m = pass(call, image, l, number, &mut first);
+    let e = call_finish::finish(m, &first, output, detail);
+    if e.done {
+        return e.answer;
+    }
+    let w = pass(call, image, l, number, output);
+    answers::answer::accept(w.length as u32, w.visits)
+}

@@ -1,0 +1,93 @@
+// A function's parameters in the pool against the expected ones in the table.
+use answers::answer::Outcome;
+use image_layout::Layout;
+use rules::ids::NameId;
+use type_words::HeldType;
+ghost use mathlib.Core.Path.{_≡_};
+ghost use mathlib.Core.List.{List};
+ghost use Prim.Native.Nat.{ℕ};
+ghost use lib.ListN.{length, getD};
+ghost use Rattle.rules.specs.Syntax.{ResolvedType, Param};
+ghost use Rattle.rules.specs.CheckSignature.{check-params};
+ghost use Rattle.type_words.specs.Holds.{Holds};
+ghost use Rattle.image_words.specs.Gives.{Row};
+ghost use Rattle.image_layout.specs.Rows.{Inside};
+ghost use Rattle.image_layout.specs.Open.{pool-words};
+ghost use Rattle.pool_types.specs.TypeAt.{Type-stands};
+ghost use Rattle.pool_types.specs.ParamAt.{Param-at};
+ghost use Rattle.locals.specs.Rows.{Rows};
+ghost use Rattle.project_outcome.specs.Outcomes.{Passes};
+ghost use Rattle.check_signature.specs.Params.{check-param};
+
+// The name in a row of the table, 0 past its end.
+fn name_at(names: &[u32], i: usize) -> NameId
+    ensures { λ r. ⌜ r .0 ≡ getD (now (names .entry)) i 0 ⌝ }
+{
+    if names.len() <= i {
+        return NameId(0);
+    }
+    NameId(names[i])
+}
+
+// One parameter: the names, then the types.
+fn check_param(
+    function: NameId,
+    wanted: NameId,
+    expected: HeldType,
+    found: NameId,
+    actual: HeldType,
+) -> Outcome
+    ensures { λ r. ⌜ ((rows : ℕ) (a e : Param ResolvedType) → found .0 ≡ a .name → wanted .0 ≡ e .name → Holds rows actual (a .ty) → Holds rows expected (e .ty) → Passes (check-param (function .0) a e) r) ⌝ }
+{
+    if found.0 != wanted.0 {
+        return answers::answer::refused(crate::mismatch::wrong_word(
+            function,
+            2,
+            wanted.0,
+            found.0,
+        ));
+    }
+    if !type_tests::tests::same_type(actual, expected) {
+        return answers::answer::refused(crate::mismatch::wrong_type(
+            function,
+            wanted,
+            expected,
+            actual,
+        ));
+    }
+    answers::answer::accepted(0, 0)
+}
+
+// The parameters from `at` on against the rows of the table, which are as many.
+pub fn check_params(
+    image: &[u8],
+    l: Layout,
+    at: usize,
+    function: NameId,
+    names: &[u32],
+    words: &[u32],
+    lens: &[u32],
+    count: usize,
+) -> Outcome
+    requires { ⌜ Inside (now image) l ⌝ }
+    ensures { λ r. ⌜ ((ps es : List (Param ResolvedType)) (n : ℕ) → Row (Param-at (l .names .rows) (pool-words (now (image .entry)) l) (Type-stands (l .names .rows) (pool-words (now (image .entry)) l))) ps at n → Rows (l .names .rows) (now (names .entry)) (now (words .entry)) (now (lens .entry)) count 0 es → length ps ≡ length es → Passes (check-params (function .0) ps es) r) ⌝ }
+{
+    let pool = l.pool;
+    let mut i = 0;
+    let mut next = at;
+    while i < count {
+        let found = NameId(image_words::section_word(image, pool, next));
+        let place = message_fields::after(pool, next);
+        let h = type_from_pool::hold_type(image, l, place);
+        let actual = h.ty;
+        let wanted = name_at(names, i);
+        let expected = locals::local_type(words, lens, i);
+        let r = check_param(function, wanted, expected, found, actual);
+        if !r.ok {
+            return r;
+        }
+        next = h.next;
+        i += 1;
+    }
+    answers::answer::accepted(0, 0)
+}

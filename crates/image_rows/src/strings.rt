@@ -1,0 +1,14 @@
+// String rows.
+use image_layout::Layout;
+ghost use Prim.Native.Nat.{_<_};
+ghost use Rattle.image_layout.specs.Rows.{Cut};
+ghost use Rattle.image_rows.specs.Verdict.{StringSays};
+
+// A text inside the texts, of any length.
+pub fn check_string_row(image: &[u8], l: Layout, i: u32) -> bool
+    requires { ⌜ Cut (now image) l × (i < l .strings .rows) ⌝ }
+    ensures { λ r. ⌜ StringSays (now (image .entry)) l i r ⌝ }
+{
+    let row = image_layout::string_row(image, l, i);
+    row.start as usize + row.size as usize <= l.texts
+}

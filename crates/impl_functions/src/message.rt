@@ -1,0 +1,51 @@
+// The message that an implementation is for.
+use image_layout::Layout;
+use impl_rows::find::Found;
+use rules::ids::TypeId;
+use rules::kinds::DefinitionKind;
+use type_words::HeldType;
+ghost use mathlib.Core.Path.{_≡_};
+ghost use Prim.Native.Nat.{ℕ};
+ghost use Rattle.rules.specs.Syntax.{ResolvedType, CompiledSchema};
+ghost use Rattle.rules.specs.Options.{then};
+ghost use Rattle.rules.specs.Substitute.{get, number};
+ghost use Rattle.rules.specs.Project.{as-message};
+ghost use Rattle.image_layout.specs.Rows.{Inside};
+ghost use Rattle.image_layout.specs.Open.{Open, pool-words};
+ghost use Rattle.pool_types.specs.TypeAt.{Type-stands};
+ghost use Rattle.impl_rows.specs.Found.{Finds};
+ghost use Rattle.impl_functions.specs.Functions.{is-message-kind, Message-here};
+
+fn is_message(k: DefinitionKind) -> bool
+    ensures { λ r. ⌜ r ≡ is-message-kind k ⌝ }
+{
+    match k {
+        DefinitionKind::Other => false,
+        DefinitionKind::Message => true,
+        DefinitionKind::GenericAlias => false,
+        DefinitionKind::Trait => false,
+        DefinitionKind::Implementation => false,
+        DefinitionKind::Unknown => false,
+    }
+}
+
+// Where the message stands that the type at `at` is Named to.
+pub fn target_message(image: &[u8], l: Layout, at: usize) -> Found
+    requires { ⌜ Inside (now image) l ⌝ }
+    ensures { λ r. ⌜ ((s : CompiledSchema) → Open (now (image .entry)) l s → (t : ResolvedType) (n : ℕ) → Type-stands (l .names .rows) (pool-words (now (image .entry)) l) t at n → Finds (Message-here (now (image .entry)) l) (then (number t) (λ d. then (get s d) as-message)) r) ⌝ }
+{
+    let pool = l.pool;
+    if image_words::section_word(image, pool, at) != HeldType::NAMED {
+        return Found {
+            ok: false,
+            start: 0,
+        };
+    }
+    let d = image_words::section_word(image, pool, message_fields::after(pool, at));
+    let row = image_layout::definition_row(image, l, TypeId(d));
+    let k = row.kind;
+    Found {
+        ok: is_message(k),
+        start: row.start as usize,
+    }
+}

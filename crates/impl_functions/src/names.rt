@@ -1,0 +1,35 @@
+// The names of a trait's functions.
+use image_layout::Layout;
+ghost use mathlib.Core.Path.{_≡_};
+ghost use mathlib.Core.List.{List, map};
+ghost use Prim.Native.Nat.{ℕ, _≤_};
+ghost use lib.ListN.{length, take};
+ghost use Rattle.rules.specs.Syntax.{TraitFnDef};
+ghost use Rattle.image_layout.specs.Rows.{Inside};
+ghost use Rattle.impl_functions.specs.Functions.{All-asked-here};
+
+// A count of functions, at most 64.
+pub fn few(n: u32) -> usize
+    ensures { λ r. ⌜ (n ≤ 64 → r ≡ n) × (r ≤ 64) ⌝ }
+{
+    if n <= 64 { n as usize } else { 64 }
+}
+
+// The names of the trait functions at `at`, from the table's start.
+pub fn function_names(image: &[u8], l: Layout, at: usize) -> [u32; 64]
+    requires { ⌜ Inside (now image) l ⌝ }
+    ensures { λ r. ⌜ ((ts : List TraitFnDef) (n : ℕ) → All-asked-here (now (image .entry)) l ts at n → take (length ts) r ≡ map (λ t. t .name) ts) ⌝ }
+{
+    let pool = l.pool;
+    let count = few(image_words::section_word(image, pool, at));
+    let mut names = [0u32; 64];
+    let mut i = 0;
+    let mut next = message_fields::after(pool, at);
+    while i < count {
+        let name = crate::places::name_at(image, l, next);
+        names[i] = name.0;
+        next = crate::places::after_asked(image, l, next);
+        i += 1;
+    }
+    names
+}

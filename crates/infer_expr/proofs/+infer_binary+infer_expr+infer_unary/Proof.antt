@@ -1,0 +1,199 @@
+-- `infer_expr::infer_expr` and its operations meet their contracts: each arm by the code that stands there, each operation by its operands' answers. Assumes nothing.
+use borrow.Author.Needs.{needs}
+use Prim.Native.Nat.{ℕ, _+_, _*_, _<_}
+use native.Mathlib.Omega.{arith}
+use mathlib.Core.Path.{_≡_, refl, sym, subst, _∙_}
+use denote.Ref.{now}
+use lib.ListN.{length}
+use lib.Dec.{lit<}
+use Rattle.rules.specs.Syntax.{Expr}
+use Rattle.rules.specs.Types.{BOOL, STRING}
+use Rattle.rules.specs.Infer.{infer-expr}
+use Rattle.image_layout.specs.Open.{pool-words}
+use Rattle.image_words.specs.Sections.{length-section}
+use Rattle.infer_result.specs.Says.{Says}
+use Rattle.infer_context.specs.Nodes.{deep, binary-word, unary-word}
+use Rattle.infer_context.specs.Operands.{left-at, right-at, value-at}
+use Rattle.infer_leaves.specs.Plain.{bool-held, string-held}
+use Rattle.infer_expr.specs.Arms.{of-literal, of-flag, of-text, of-local, of-self-ref, of-field, of-call, of-method, of-binary, of-unary, of-unknown}
+use Rattle.infer_expr.specs.Operations.{left-refused, right-refused, both-typed, value-refused, value-typed}
+use borrow.Fn.Kinds.{In}
+use borrow.Fn.PlainCycle.{Measures, is, falls, and}
+use Rattle.infer_expr.proofs.infer_binary.Reads as infer-binary
+use Rattle.infer_expr.proofs.infer_binary.Kinds as infer-binary-kinds
+use Rattle.infer_expr.proofs.+infer_binary+infer_expr+infer_unary.Lts-infer_binary as infer-binary-lts
+use Rattle.infer_expr.proofs.infer_expr.Reads as infer-expr
+use Rattle.infer_expr.proofs.infer_expr.Kinds as infer-expr-kinds
+use Rattle.infer_expr.proofs.+infer_binary+infer_expr+infer_unary.Lts-infer_expr as infer-expr-lts
+use Rattle.infer_expr.proofs.infer_unary.Reads as infer-unary
+use Rattle.infer_expr.proofs.infer_unary.Kinds as infer-unary-kinds
+use Rattle.infer_expr.proofs.+infer_binary+infer_expr+infer_unary.Lts-infer_unary as infer-unary-lts
+use Rattle.infer_expr.proofs.method_name.Reads as method-name-reads
+use Rattle.type_words.proofs.HeldType.empty.Reads as empty-reads
+use Rattle.type_words.proofs.HeldType.plain.Reads as plain-reads
+use Rattle.type_words.proofs.MaybeType.some.Reads as some-reads
+use Rattle.infer_result.proofs.inferred.accepted.Reads as accepted-reads
+use Rattle.infer_result.proofs.inferred.ended.Reads as ended-reads
+use Rattle.infer_result.proofs.inferred.refused.Reads as refused-reads
+use Rattle.infer_result.proofs.operators.end_binary.Reads as end-binary-reads
+use Rattle.infer_result.proofs.operators.end_unary.Reads as end-unary-reads
+use Rattle.infer_leaves.proofs.infer_literal.Reads as infer-literal-reads
+use Rattle.infer_leaves.proofs.infer_place.Reads as infer-place-reads
+use Rattle.infer_context.proofs.binary_hint.Reads as binary-hint-reads
+use Rattle.infer_context.proofs.first_part.Reads as first-part-reads
+use Rattle.infer_context.proofs.kind_at.Reads as kind-at-reads
+use Rattle.infer_context.proofs.operand.Reads as operand-reads
+use Rattle.infer_context.proofs.skip_expr.Reads as skip-expr-reads
+use Rattle.infer_expr.proofs.+infer_binary+infer_expr+infer_unary.{statement}
+use Rattle.infer_expr.proofs.+infer_binary+infer_expr+infer_unary.Tie.{close}
+
+abbrev μ-infer-binary : Measures 4 infer-binary-kinds.ps ℕ
+μ-infer-binary κs a = 2 * a .1 .1 .1 .1 .1 .1 .1 .0 + 1
+
+abbrev μ-infer-expr : Measures 4 infer-expr-kinds.ps ℕ
+μ-infer-expr κs a = 2 * a .1 .1 .1 .1 .1 .1 .1 .0
+
+abbrev μ-infer-unary : Measures 4 infer-unary-kinds.ps ℕ
+μ-infer-unary κs a = 2 * a .1 .1 .1 .1 .1 .1 .1 .0 + 1
+
+abbrev infer-binary-at : ℕ → In 4 infer-binary-kinds.ps
+infer-binary-at t =
+    and 4 infer-binary-kinds.ps (is 4 infer-binary-kinds.ps μ-infer-binary t) infer-binary.Pre
+
+abbrev infer-binary-below : ℕ → In 4 infer-binary-kinds.ps
+infer-binary-below t =
+    and
+    4
+    infer-binary-kinds.ps
+    (falls 4 infer-binary-kinds.ps _<_ μ-infer-binary t)
+    infer-binary.Pre
+
+abbrev infer-expr-at : ℕ → In 4 infer-expr-kinds.ps
+infer-expr-at t =
+    and 4 infer-expr-kinds.ps (is 4 infer-expr-kinds.ps μ-infer-expr t) infer-expr.Pre
+
+abbrev infer-expr-below : ℕ → In 4 infer-expr-kinds.ps
+infer-expr-below t =
+    and 4 infer-expr-kinds.ps (falls 4 infer-expr-kinds.ps _<_ μ-infer-expr t) infer-expr.Pre
+
+abbrev infer-unary-at : ℕ → In 4 infer-unary-kinds.ps
+infer-unary-at t =
+    and 4 infer-unary-kinds.ps (is 4 infer-unary-kinds.ps μ-infer-unary t) infer-unary.Pre
+
+abbrev infer-unary-below : ℕ → In 4 infer-unary-kinds.ps
+infer-unary-below t =
+    and 4 infer-unary-kinds.ps (falls 4 infer-unary-kinds.ps _<_ μ-infer-unary t) infer-unary.Pre
+
+-- what infer-binary knows of the functions that it calls
+abbrev infer-binary-calls : ℕ → infer-binary-lts.Claims
+infer-binary-calls t = (operand-reads.Asked, operand-reads.Learnt, first-part-reads.Asked, first-part-reads.Learnt, skip-expr-reads.Asked, skip-expr-reads.Learnt, binary-hint-reads.Asked, binary-hint-reads.Learnt, infer-expr-below t, infer-expr.Post, some-reads.Asked, some-reads.Learnt, end-binary-reads.Asked, end-binary-reads.Learnt)
+
+-- what infer-expr knows of the functions that it calls
+abbrev infer-expr-calls : ℕ → infer-expr-lts.Claims
+infer-expr-calls t = (empty-reads.Asked, empty-reads.Learnt, accepted-reads.Asked, accepted-reads.Learnt, kind-at-reads.Asked, kind-at-reads.Learnt, infer-literal-reads.Asked, infer-literal-reads.Learnt, plain-reads.Asked, plain-reads.Learnt, ended-reads.Asked, ended-reads.Learnt, infer-place-reads.Asked, infer-place-reads.Learnt, operand-reads.Asked, operand-reads.Learnt, refused-reads.Asked, refused-reads.Learnt, method-name-reads.Asked, method-name-reads.Learnt, infer-binary-below t, infer-binary.Post, infer-unary-below t, infer-unary.Post)
+
+-- what infer-unary knows of the functions that it calls
+abbrev infer-unary-calls : ℕ → infer-unary-lts.Claims
+infer-unary-calls t = (operand-reads.Asked, operand-reads.Learnt, first-part-reads.Asked, first-part-reads.Learnt, infer-expr-below t, infer-expr.Post, end-unary-reads.Asked, end-unary-reads.Learnt)
+
+pub +infer-binary+infer-expr+infer-unary-spec : {M : Type 1} → statement M
++infer-binary+infer-expr+infer-unary-spec =
+    close μ-infer-binary μ-infer-expr μ-infer-unary
+    (λ t. infer-binary-lts.spec (infer-binary-calls t) (infer-binary-at t) infer-binary.Post
+    (λ c κs. search needs)
+    (λ c κs. search needs)
+    (λ c κs. search needs)
+    (λ c κs. search needs)
+    (λ c κs. search needs)
+    (λ c. λ x i outer op d e n z s o w.
+    let a = c .before .before .before .before .before .before .before .before .before .before .before .args in
+    let v = binary-word op d e s in
+    let f : a .at + 1 < length (pool-words (now (a .image)) (a .l)) → c .before .before .before .before .before .first-part .result ≡ a .at + 1 + 1 = λ h. c .before .before .before .before .before .first-part .ensures (omega (arith, length-section (c .before .before .before .before .before .before .before .before .before .before .before .pre .1 .pool))) in
+    let l = left-at outer (a .nest) z (a .at) _ f op d e s in
+    let r = right-at outer (a .nest) z (a .at) _ f op d e s _ (c .before .before .before .before .skip-expr .ensures) in
+    subst (λ (y : ℕ). Says (a .l .names .rows) (x .function) (infer-expr x (Expr.binary y d e) o (a .context)) (c .before .before .infer-expr .result)) (c .before .before .before .before .before .before .operand .ensures (omega (arith, v .0)) ∙ v .1)
+    (left-refused (a .l .names .rows) x o _ _ d e _ (c .before .before .infer-expr .ensures x i d _ l _ (c .before .before .before .binary-hint .ensures x i _ d _ l e n r o w)) (c .if1 .taken)))
+    (λ c κs. search needs)
+    (λ c κs. (omega (arith, c .before .before .before .before .before .before .before .before .before .before .before .before .before .pre .0), c .before .before .before .before .before .before .before .before .before .before .before .before .before .pre .1))
+    (λ c. λ x i outer op d e n z s o w.
+    let a = c .before .before .before .before .before .before .before .before .before .before .before .before .before .before .before .before .args in
+    let v = binary-word op d e s in
+    let f : a .at + 1 < length (pool-words (now (a .image)) (a .l)) → c .before .before .before .before .before .before .before .before .before .before .first-part .result ≡ a .at + 1 + 1 = λ h. c .before .before .before .before .before .before .before .before .before .before .first-part .ensures (omega (arith, length-section (c .before .before .before .before .before .before .before .before .before .before .before .before .before .before .before .before .pre .1 .pool))) in
+    let l = left-at outer (a .nest) z (a .at) _ f op d e s in
+    let r = right-at outer (a .nest) z (a .at) _ f op d e s _ (c .before .before .before .before .before .before .before .before .before .skip-expr .ensures) in
+    subst (λ (y : ℕ). Says (a .l .names .rows) (x .function) (infer-expr x (Expr.binary y d e) o (a .context)) (c .before .before .infer-expr2 .result)) (c .before .before .before .before .before .before .before .before .before .before .before .operand .ensures (omega (arith, v .0)) ∙ v .1)
+    (right-refused (a .l .names .rows) x o _ _ d e _ (c .before .before .before .before .before .before .before .infer-expr .ensures x i d _ l _ (c .before .before .before .before .before .before .before .before .binary-hint .ensures x i _ d _ l e n r o w)) (c .before .before .before .before .before .if1 .left) _
+    (λ t p. c .before .before .infer-expr2 .ensures x i e n r _ (c .before .before .before .some .ensures .0, rw (c .before .before .before .some .ensures .1) p)) (c .if2 .taken)))
+    (λ c κs. search needs)
+    (λ c. λ x i outer op d e n z s o w.
+    let a = c .before .before .before .before .before .before .before .before .before .before .before .before .before .before .before .before .before .args in
+    let v = binary-word op d e s in
+    let f : a .at + 1 < length (pool-words (now (a .image)) (a .l)) → c .before .before .before .before .before .before .before .before .before .before .before .first-part .result ≡ a .at + 1 + 1 = λ h. c .before .before .before .before .before .before .before .before .before .before .before .first-part .ensures (omega (arith, length-section (c .before .before .before .before .before .before .before .before .before .before .before .before .before .before .before .before .before .pre .1 .pool))) in
+    let l = left-at outer (a .nest) z (a .at) _ f op d e s in
+    let r = right-at outer (a .nest) z (a .at) _ f op d e s _ (c .before .before .before .before .before .before .before .before .before .before .skip-expr .ensures) in
+    subst (λ (y : ℕ). Says (a .l .names .rows) (x .function) (infer-expr x (Expr.binary y d e) o (a .context)) (c .end-binary .result)) (c .before .before .before .before .before .before .before .before .before .before .before .before .operand .ensures (omega (arith, v .0)) ∙ v .1)
+    (both-typed (a .l .names .rows) x o _ _ d e _ (c .before .before .before .before .before .before .before .before .infer-expr .ensures x i d _ l _ (c .before .before .before .before .before .before .before .before .before .binary-hint .ensures x i _ d _ l e n r o w)) (c .before .before .before .before .before .before .if1 .left) _
+    (λ t p. c .before .before .before .infer-expr2 .ensures x i e n r _ (c .before .before .before .before .some .ensures .0, rw (c .before .before .before .before .some .ensures .1) p)) (c .before .if2 .left) _ (λ t p k. c .end-binary .ensures _ o t w p x k))))
+    (λ t. infer-expr-lts.spec (infer-expr-calls t) (infer-expr-at t) infer-expr.Post
+    (λ c κs. search needs)
+    (λ c κs. search needs)
+    (λ c. λ x i e n s o w. absurd (omega (arith, deep e, s .nested .deep, (c .before .before .if1 .taken))))
+    (λ c κs. search needs)
+    (λ c. search needs)
+    (λ c κs. search needs)
+    (λ c. search needs)
+    (λ c κs. search needs)
+    (λ c κs. search needs)
+    (λ c. search needs)
+    (λ c κs. search needs)
+    (λ c κs. search needs)
+    (λ c. search needs)
+    (λ c κs. search needs)
+    (λ c. search needs)
+    (λ c κs. search needs)
+    (λ c. search needs)
+    (λ c κs. search needs)
+    (λ c. search needs)
+    (λ c κs. search needs)
+    (λ c κs. search needs)
+    (λ c. search needs)
+    (λ c κs. search needs)
+    (λ c κs. search needs)
+    (λ c. search needs)
+    (λ c. search needs)
+    (λ c κs. search needs)
+    (λ c. search needs)
+    (λ c. search needs)
+    (λ c κs. search needs)
+    (λ c. search needs)
+    (λ c κs. search needs)
+    (λ c κs. search needs)
+    (λ c. λ x i e n s o w. of-literal x o _ _ (sym (c .before .before .before .kind-at .ensures) ∙ c .before .enum-told .given .1) (λ k low high s. c .infer-literal .ensures _ k low high n s o w x) e s)
+    (λ c. λ x i e n s o w. of-flag x o _ _ (sym (c .before .before .before .before .kind-at .ensures) ∙ c .before .before .enum-told2 .given .1) (λ k. c .ended .ensures _ o BOOL w (bool-held _ (c .before .plain .ensures)) x k) e s)
+    (λ c. λ x i e n s o w. of-text x o _ _ (sym (c .before .before .before .before .kind-at .ensures) ∙ c .before .before .enum-told3 .given .1) (λ k. c .ended2 .ensures _ o STRING w (string-held _ (c .before .plain2 .ensures)) x k) e s)
+    (λ c. λ x i e n s o w. of-local x o _ _ (sym (c .before .before .before .kind-at .ensures) ∙ c .before .enum-told4 .given .1) (λ d s k. c .infer-place .ensures x i _ d n s (lit< tt) (lit< tt) o w k) e s)
+    (λ c. λ x i e n s o w. of-self-ref x o _ _ (sym (c .before .before .before .kind-at .ensures) ∙ c .before .enum-told5 .given .1) (λ d s k. c .infer-place2 .ensures x i _ d n s (lit< tt) (lit< tt) o w k) e s)
+    (λ c. λ x i e n s o w. of-field x o _ _ (sym (c .before .before .before .kind-at .ensures) ∙ c .before .enum-told6 .given .1) (λ d s k. c .infer-place3 .ensures x i _ d n s (lit< tt) (lit< tt) o w k) e s)
+    (λ c. λ x i e n s o w. of-call x o _ _ (sym (c .before .before .before .before .kind-at .ensures) ∙ c .before .before .enum-told7 .given .1) _ (c .before .operand .ensures) (c .refused .ensures (lit< tt) (lit< tt) (c .before .before .before .before .before .before .before .before .before .before .args .l .names .rows) (x .function)) e s)
+    (λ c. λ x i e n s o w. of-method x o _ _ (sym (c .before .before .before .before .kind-at .ensures) ∙ c .before .before .enum-told8 .given .1) _ (c .before .method-name .ensures) (c .refused2 .ensures (lit< tt) (lit< tt) (c .before .before .before .before .before .before .before .before .before .before .args .l .names .rows) (x .function)) e s)
+    (λ c. λ x i e n s o w. of-binary x o _ _ (sym (c .before .before .before .kind-at .ensures) ∙ c .before .enum-told9 .given .1) (λ op d f s. c .infer-binary .ensures x i _ op d f n refl s o w) e s)
+    (λ c. λ x i e n s o w. of-unary x o _ _ (sym (c .before .before .before .kind-at .ensures) ∙ c .before .enum-told10 .given .1) (λ op f s. c .infer-unary .ensures x i _ op f n refl s o w) e s)
+    (λ c. λ x i e n s o w. of-unknown x o _ _ (sym (c .before .before .before .before .kind-at .ensures) ∙ c .before .before .enum-told11 .given .1) e s))
+    (λ t. infer-unary-lts.spec (infer-unary-calls t) (infer-unary-at t) infer-unary.Post
+    (λ c κs. search needs)
+    (λ c κs. search needs)
+    (λ c κs. search needs)
+    (λ c. λ x i outer op e n z s o w.
+    let a = c .before .before .before .before .before .before .before .before .before .args in
+    let v = unary-word op e s in
+    let f : a .at + 1 < length (pool-words (now (a .image)) (a .l)) → c .before .before .before .first-part .result ≡ a .at + 1 + 1 = λ h. c .before .before .before .first-part .ensures (omega (arith, length-section (c .before .before .before .before .before .before .before .before .before .pre .1 .pool))) in
+    subst (λ (y : ℕ). Says (a .l .names .rows) (x .function) (infer-expr x (Expr.unary y e) o (a .context)) (c .before .before .infer-expr .result)) (c .before .before .before .before .operand .ensures (omega (arith, v .0)) ∙ v .1)
+    (value-refused (a .l .names .rows) x o _ _ e _ (c .before .before .infer-expr .ensures x i e n (value-at outer (a .nest) z (a .at) _ f op e s) o w) (c .if1 .taken)))
+    (λ c κs. search needs)
+    (λ c. λ x i outer op e n z s o w.
+    let a = c .before .before .before .before .before .before .before .before .before .before .before .args in
+    let v = unary-word op e s in
+    let f : a .at + 1 < length (pool-words (now (a .image)) (a .l)) → c .before .before .before .before .before .first-part .result ≡ a .at + 1 + 1 = λ h. c .before .before .before .before .before .first-part .ensures (omega (arith, length-section (c .before .before .before .before .before .before .before .before .before .before .before .pre .1 .pool))) in
+    let q : c .before .before .before .before .before .before .operand .result ≡ op = c .before .before .before .before .before .before .operand .ensures (omega (arith, v .0)) ∙ v .1 in
+    subst (λ (y : ℕ). Says (a .l .names .rows) (x .function) (infer-expr x (Expr.unary y e) o (a .context)) (c .end-unary .result)) q
+    (value-typed (a .l .names .rows) x o _ _ e _ (c .before .before .before .before .infer-expr .ensures x i e n (value-at outer (a .nest) z (a .at) _ f op e s) o w) (c .before .before .if1 .left) _ (λ t p k. c .end-unary .ensures (omega (arith, q, s .nested .good .0)) _ o t w p x k))))

@@ -1,0 +1,106 @@
+// Expressions with no operator: literals, places, calls.
+use image_layout::Layout;
+use infer_context::Context;
+use infer_result::inferred::Inferred;
+use rules::ids::NameId;
+use rules::ids::PrimitiveType;
+use type_words::HeldType;
+use type_words::MaybeType;
+ghost use mathlib.Core.Path.{_≡_};
+ghost use mathlib.Core.Option.{Option};
+ghost use Prim.Native.Nat.{ℕ, _+_, _*_, _<_};
+ghost use lib.ListN.{getD};
+ghost use Rattle.rules.specs.Syntax.{ResolvedType, Expr};
+ghost use Rattle.rules.specs.Fits.{literal-own};
+ghost use Rattle.rules.specs.Infer.{FunctionContext, PortableExprKind, expression-hint, infer-expr};
+ghost use Rattle.type_words.specs.Holds.{Holds, EachMaybe, MaybeHolds};
+ghost use Rattle.type_tests.specs.Literals.{literal-type};
+ghost use Rattle.image_layout.specs.Rows.{Inside};
+ghost use Rattle.image_layout.specs.Open.{pool-words};
+ghost use Rattle.infer_context.specs.Stood.{Stood, AtExpr};
+ghost use Rattle.infer_context.specs.InContext.{AtContext};
+ghost use Rattle.infer_result.specs.Says.{Says};
+ghost use Rattle.infer_leaves.specs.Placed.{placed};
+
+// The 64 bits of a literal.
+fn literal_bits(image: &[u8], l: Layout, at: usize) -> u64
+    requires { ⌜ Inside (now image) l ⌝ }
+    ensures { λ r. ⌜ ((nest c low high n : ℕ) → Stood (l .names .rows) (l .strings .rows) (pool-words (now (image .entry)) l) nest (Expr.literal c low high) at n → r ≡ low + 4294967296 * high) ⌝ }
+{
+    let pool = l.pool;
+    let next = message_fields::after(pool, at);
+    let low = image_words::section_word(image, pool, next);
+    let high = image_words::section_word(image, pool, message_fields::after(pool, next));
+    (low as u64) + 4294967296 * (high as u64)
+}
+
+// The type that a literal of this code takes: 0 Int, 1 UInt, 2 Float.
+fn literal_type(code: u32, bits: u64, expected: MaybeType) -> MaybeType
+    ensures { λ r. ⌜ (code < 3 → EachMaybe expected (λ names o. MaybeHolds names r (literal-type code bits o))) ⌝ }
+{
+    if code == 0 {
+        return type_tests::literals::literal_int_type(bits, expected);
+    }
+    if code == 1 {
+        return type_tests::literals::literal_uint_type(bits, expected);
+    }
+    type_tests::literals::literal_float_type(expected)
+}
+
+// A literal's own type.
+pub fn literal_own(code: u32) -> HeldType
+    ensures { λ r. ⌜ (code < 3 → (names : ℕ) → Holds names r (literal-own code)) ⌝ }
+{
+    if code == 0 {
+        return HeldType::plain(PrimitiveType::I64);
+    }
+    if code == 1 {
+        return HeldType::plain(PrimitiveType::U64);
+    }
+    HeldType::plain(PrimitiveType::F64)
+}
+
+pub fn infer_literal(
+    image: &[u8],
+    l: Layout,
+    at: usize,
+    expected: MaybeType,
+    context: u32,
+) -> Inferred
+    requires { ⌜ Inside (now image) l ⌝ }
+    ensures { λ r. ⌜ ((nest k low high n : ℕ) → Stood (l .names .rows) (l .strings .rows) (pool-words (now (image .entry)) l) nest (Expr.literal k low high) at n → (o : Option ResolvedType) → MaybeHolds (l .names .rows) expected o → (c : FunctionContext) → Says (l .names .rows) (c .function) (infer-expr c (Expr.literal k low high) o context) r) ⌝ }
+{
+    let pool = l.pool;
+    let code = image_words::section_word(image, pool, at);
+    let m = literal_type(code, literal_bits(image, l, at), expected);
+    if m.some {
+        let ty = m.ty;
+        return infer_result::inferred::ended(expected, context, ty);
+    }
+    let wanted = expected.ty;
+    infer_result::inferred::type_mismatch(code, wanted, literal_own(code))
+}
+
+// A local, SelfRef or a field: the type that it has by itself, or a refusal with its name.
+pub fn infer_place(
+    image: &[u8],
+    l: Layout,
+    ctx: Context,
+    names: &[u32],
+    words: &[u32],
+    lens: &[u32],
+    at: usize,
+    expected: MaybeType,
+    context: u32,
+    number: u32,
+) -> Inferred
+    requires { ⌜ Inside (now image) l ⌝ }
+    ensures { λ r. ⌜ AtContext (now (image .entry)) l (now (names .entry)) (now (words .entry)) (now (lens .entry)) ctx (λ c. (nest : ℕ) → AtExpr (now (image .entry)) l nest at (λ e n. 0 < number → number < 20 → (o : Option ResolvedType) → MaybeHolds (l .names .rows) expected o → (k : PortableExprKind) → Says (l .names .rows) (c .function) (placed c number (getD (pool-words (now (image .entry)) l) (at + 1) 0) (expression-hint c e) o context k) r)) ⌝ }
+{
+    let h = infer_context::expression_hint(image, l, ctx, names, words, lens, at);
+    if h.some {
+        let ty = h.ty;
+        return infer_result::inferred::ended(expected, context, ty);
+    }
+    infer_result::inferred::refused(number, NameId(infer_context::operand(image, l, at)))
+}

@@ -1,0 +1,133 @@
+// The typed statements of one function.
+use crate::statement::project_statement;
+use answers::answer::Outcome;
+use answers::refusal::Refusal;
+use image_layout::Layout;
+use infer_context::Context;
+use message_fields::after;
+use project_statement::parts::skip_statement;
+use project_statement::returns::RETURN;
+use project_statement::returns::project_return;
+use project_statement::returns::return_mismatch;
+use type_words::MaybeType;
+use write_words::put;
+ghost use mathlib.Core.Option.{Option};
+ghost use Prim.Native.Nat.{ℕ, _≤_};
+ghost use lib.ListN.{length};
+ghost use Rattle.rules.specs.Syntax.{ResolvedType, FnBody};
+ghost use Rattle.type_words.specs.Holds.{MaybeHolds};
+ghost use Rattle.image_layout.specs.Rows.{Inside};
+ghost use Rattle.image_layout.specs.Open.{pool-words};
+ghost use Rattle.pool_bodies.specs.StatementAt.{Body-stands};
+ghost use Rattle.infer_context.specs.InContext.{AtContext};
+ghost use Rattle.project_outcome.specs.Outcomes.{Comes-to};
+ghost use Rattle.project_statement.specs.Made.{block-words};
+ghost use Rattle.project_function.specs.Made.{body-words-of};
+ghost use Rattle.project_function.specs.Blocks.{AtBlock};
+
+pub mod statement;
+
+// So many statements from `at` on.
+pub fn project_statements(
+    image: &[u8],
+    l: Layout,
+    at: usize,
+    count: u32,
+    ctx: Context,
+    names: &mut [u32],
+    words: &mut [u32],
+    lens: &mut [u32],
+    returns: MaybeType,
+    out: &mut [u8],
+    limit: usize,
+    to: usize,
+) -> Outcome
+    requires { ⌜ Inside (now image) l × (limit ≤ length (now out)) × (64 ≤ length (now names)) × (4096 ≤ length (now words)) × (64 ≤ length (now lens)) ⌝ }
+    ensures { λ r. ⌜ AtBlock (now (image .entry)) l (now (names .entry)) (now (words .entry)) (now (lens .entry)) ctx at count (λ c ss n. (o : Option ResolvedType) → MaybeHolds (l .names .rows) returns o → Comes-to (block-words o c ss) limit to (now (out .entry)) (now (out .exit)) r) ⌝ }
+{
+    let pool = l.pool;
+    let function = ctx.function;
+    let mut locals = ctx.count;
+    let mut next = at;
+    let mut place = to;
+    let mut i = 0;
+    while i < count {
+        let c = Context {
+            function,
+            fields: ctx.fields,
+            target: ctx.target,
+            count: locals,
+        };
+        if image_words::section_word(image, pool, next) == RETURN {
+            let last = i + 1 == count;
+            return project_return(
+                image,
+                l,
+                next,
+                c,
+                names,
+                words,
+                lens,
+                returns,
+                last,
+                out,
+                limit,
+                place,
+            );
+        }
+        let s = project_statement(image, l, next, c, names, words, lens, out, limit, place);
+        let done = s.done;
+        if !done.ok {
+            return done;
+        }
+        place = done.length;
+        locals = s.count;
+        next = skip_statement(image, l, next);
+        i += 1;
+    }
+    if returns.some {
+        return return_mismatch(function, 2);
+    }
+    answers::answer::accepted(place, 0)
+}
+
+// The body at `at`: its statements' count and their words, with the parameters in view and the return type.
+pub fn project_function(
+    image: &[u8],
+    l: Layout,
+    at: usize,
+    ctx: Context,
+    names: &mut [u32],
+    words: &mut [u32],
+    lens: &mut [u32],
+    returns: MaybeType,
+    out: &mut [u8],
+    limit: usize,
+    to: usize,
+) -> Outcome
+    requires { ⌜ Inside (now image) l × (limit ≤ length (now out)) × (64 ≤ length (now names)) × (4096 ≤ length (now words)) × (64 ≤ length (now lens)) × (ctx .count ≤ 32) ⌝ }
+    ensures { λ r. ⌜ AtContext (now (image .entry)) l (now (names .entry)) (now (words .entry)) (now (lens .entry)) ctx (λ c. (b : FnBody) (n : ℕ) → Body-stands (l .names .rows) (l .strings .rows) (pool-words (now (image .entry)) l) b at n → (o : Option ResolvedType) → MaybeHolds (l .names .rows) returns o → Comes-to (body-words-of c o b) limit to (now (out .entry)) (now (out .exit)) r) ⌝ }
+{
+    let pool = l.pool;
+    if image_words::section_word(image, pool, at) == 0 {
+        let function = ctx.function;
+        return answers::answer::refused(Refusal::at(12, function));
+    }
+    let start = after(pool, at);
+    let count = image_words::section_word(image, pool, start);
+    let next = put(out, limit, to, count);
+    project_statements(
+        image,
+        l,
+        after(pool, start),
+        count,
+        ctx,
+        names,
+        words,
+        lens,
+        returns,
+        out,
+        limit,
+        next,
+    )
+}

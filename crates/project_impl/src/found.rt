@@ -1,0 +1,72 @@
+// An implementation, its trait and its message, found in the pool.
+use answers::answer::Outcome;
+use image_layout::Layout;
+use project_list::parts::Parts;
+ghost use lib.ListN.{length};
+ghost use Rattle.rules.specs.Syntax.{MessageDef};
+ghost use Rattle.image_layout.specs.Rows.{Cut};
+ghost use Rattle.answers.specs.Answers.{Comes};
+ghost use Rattle.project_outcome.specs.Outcomes.{Comes-to};
+ghost use Rattle.expected_functions.specs.Asked.{Asked};
+ghost use Rattle.project_impl.specs.Steps.{tested-words, found-words};
+ghost use Rattle.project_list.specs.Asked.{Behind};
+ghost use Rattle.project_impl.specs.Asked.{Wanted, Few};
+
+// 9, then 10, then each function: of the trait at `start` with the type arguments at `types`, whose signatures are accepted.
+// One walk finds the places of the functions, for all three.
+fn project_tested(
+    image: &[u8],
+    l: Layout,
+    start: usize,
+    types: usize,
+    parts: Parts,
+    out: &mut [u8],
+) -> Outcome
+    requires { ⌜ Cut (now image) l × Wanted (now image) l start types ⌝ }
+    ensures { λ r. ⌜ ((w : Wanted (now (image .entry)) l start types) (message : MessageDef) → Behind (now (image .entry)) l (w .asked .impl) message (w .asked .types-end) (parts .fields) (parts .target) → Comes-to (tested-words (w .asked .impl) message (w .signatures)) (length (now (out .entry))) 0 (now (out .entry)) (now (out .exit)) r) ⌝ }
+{
+    let pool = l.pool;
+    let n = image_words::section_word(image, pool, start + 1) as usize;
+    let asked = start + 1 + 1 + n;
+    let functions = project_list::parts::functions_start(image, l, types);
+    let found = impl_functions::table::function_places(image, l, functions);
+    let count = impl_functions::names::few(image_words::section_word(image, pool, functions));
+    let places = &found[..count];
+    let repeats = impl_functions::repeats::no_repeat(image, l, places);
+    if !repeats.ok {
+        return repeats;
+    }
+    let strangers = impl_functions::strangers::no_stranger(image, l, asked, places);
+    if !strangers.ok {
+        return strangers;
+    }
+    let table = impl_rows::view::view(image, l, start + 1 + 1, types + 1, n);
+    let params = &table[..66 * n];
+    let limit = out.len();
+    project_list::list::project_list(image, l, asked, params, places, parts, out, limit, 0)
+}
+
+// 6, 8 and 7 of the trait at `start` come before 9 and 10; the message's fields stand at `fields`, the target type at `target`.
+pub fn project_found(
+    image: &[u8],
+    l: Layout,
+    start: usize,
+    types: usize,
+    fields: usize,
+    target: usize,
+    out: &mut [u8],
+) -> Outcome
+    requires { ⌜ Cut (now image) l × Asked (now image) l start types ⌝ }
+    ensures { λ r. ⌜ ((a : Asked (now (image .entry)) l start types) (message : MessageDef) → Behind (now (image .entry)) l (a .impl) message (a .types-end) fields target → Few (found-words (a .impl) message (a .schema) (a .trait)) → Comes (found-words (a .impl) message (a .schema) (a .trait)) (now (out .entry)) (now (out .exit)) r) ⌝ }
+{
+    let e = expected_functions::expected_functions(image, l, start, types, &mut out[..0]);
+    if !e.ok {
+        return e;
+    }
+    let parts = Parts { fields, target };
+    let p = project_tested(image, l, start, types, parts, out);
+    if !p.ok {
+        return p;
+    }
+    answers::answer::accepted(p.length, e.visits)
+}

@@ -1,0 +1,145 @@
+// Lets: a value under the type written or its own, and a local more.
+use crate::written::written_type;
+use answers::answer::Outcome;
+use answers::refusal::Refusal;
+use image_layout::Layout;
+use infer_context::Context;
+use rules::ids::NameId;
+use type_words::HeldType;
+use write_words::put;
+ghost use mathlib.Core.Option.{Option};
+ghost use Prim.Native.Nat.{ℕ, _<_, _≤_};
+ghost use lib.ListN.{length};
+ghost use Rattle.rules.specs.Syntax.{ResolvedType, Expr, Statement};
+ghost use Rattle.image_layout.specs.Rows.{Inside};
+ghost use Rattle.image_layout.specs.Open.{pool-words};
+ghost use Rattle.pool_bodies.specs.StatementAt.{Statement-stands};
+ghost use Rattle.infer_context.specs.Stood.{AtExpr};
+ghost use Rattle.infer_context.specs.InContext.{AtContext};
+ghost use Rattle.write_expr.specs.Writes.{WritesOf};
+ghost use Rattle.project_let.specs.Made.{let-words, made-let};
+ghost use Rattle.project_let.specs.Agree.{Steps};
+
+mod written;
+
+// What comes of one statement: its refusal, or where the next word goes; and how many locals are in view behind it.
+pub struct Step {
+    pub done: Outcome,
+    pub count: usize,
+}
+
+// Its code.
+pub const LET: u32 = 1;
+
+// How deep an expression nests at most.
+const NESTING: u32 = 32;
+
+// The context of its value.
+const LOCAL_BINDING: u32 = 3;
+
+// The words of a Let whose accepted value stands at `at`.
+fn write_let(
+    image: &[u8],
+    l: Layout,
+    ctx: Context,
+    names: &[u32],
+    words: &[u32],
+    lens: &[u32],
+    at: usize,
+    name: NameId,
+    ty: HeldType,
+    out: &mut [u8],
+    limit: usize,
+    to: usize,
+) -> usize
+    requires { ⌜ Inside (now image) l × (limit ≤ length (now out)) ⌝ }
+    ensures { λ r. ⌜ AtContext (now (image .entry)) l (now (names .entry)) (now (words .entry)) (now (lens .entry)) ctx (λ c. AtExpr (now (image .entry)) l 32 at (λ e n. WritesOf (now (image .entry)) l (now (names .entry)) (now (words .entry)) (now (lens .entry)) ctx at 32 ty limit to (now (out .entry)) r (now (out .exit)) (let-words (name .0)) c e)) ⌝ }
+{
+    let a = put(out, limit, to, LET);
+    let b = put(out, limit, a, name.0);
+    let d = write_words::put_type(out, limit, b, ty);
+    write_expr::write_expr(
+        image,
+        l,
+        ctx,
+        names,
+        words,
+        lens,
+        at,
+        NESTING,
+        ty,
+        out,
+        limit,
+        d,
+    )
+}
+
+// A Let. Of at most 32 parameters and 32 Lets each finds a row; a full table is passed over.
+pub fn project_let(
+    image: &[u8],
+    l: Layout,
+    at: usize,
+    ctx: Context,
+    names: &mut [u32],
+    words: &mut [u32],
+    lens: &mut [u32],
+    out: &mut [u8],
+    limit: usize,
+    to: usize,
+) -> Step
+    requires { ⌜ Inside (now image) l × (limit ≤ length (now out)) × (64 ≤ length (now names)) × (4096 ≤ length (now words)) × (64 ≤ length (now lens)) ⌝ }
+    ensures { λ r. ⌜ AtContext (now (image .entry)) l (now (names .entry)) (now (words .entry)) (now (lens .entry)) ctx (λ c. (x : ℕ) (t : Option ResolvedType) (e : Expr) (n : ℕ) → Statement-stands (l .names .rows) (l .strings .rows) (pool-words (now (image .entry)) l) (Statement.let-local x t e) at n → ctx .count < 64 → Steps (now (image .entry)) l (now (names .exit)) (now (words .exit)) (now (lens .exit)) ctx limit to (now (out .entry)) (now (out .exit)) r 1 (made-let c x t e)) ⌝ }
+{
+    let count = ctx.count;
+    let function = ctx.function;
+    if 64 <= count {
+        let done = answers::answer::accepted(to, 0);
+        return Step { done, count };
+    }
+    let name = NameId(infer_context::operand(image, l, at));
+    let row = locals::find_local(names, count, name);
+    if row < count {
+        let done = answers::answer::refused(Refusal::named(18, function, name));
+        return Step { done, count };
+    }
+    let w = written_type(image, l, infer_context::first_part(l, at));
+    let expected = w.ty;
+    let value = w.next;
+    let r = infer_expr::infer_expr(
+        image,
+        l,
+        ctx,
+        names,
+        words,
+        lens,
+        value,
+        NESTING,
+        expected,
+        LOCAL_BINDING,
+    );
+    if r.number != 0 {
+        let done = project_outcome::refuse_value(function, r);
+        return Step { done, count };
+    }
+    let ty = r.ty;
+    let next = write_let(
+        image,
+        l,
+        ctx,
+        names,
+        words,
+        lens,
+        value,
+        name,
+        ty,
+        out,
+        limit,
+        to,
+    );
+    locals::add_local(names, words, lens, count, name, ty);
+    let done = answers::answer::accepted(next, 0);
+    Step {
+        done,
+        count: count + 1,
+    }
+}

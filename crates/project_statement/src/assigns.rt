@@ -1,0 +1,101 @@
+// Assignments to a field of SelfRef.
+use crate::value::NESTING;
+use crate::value::project_value;
+use answers::answer::Outcome;
+use answers::refusal::Refusal;
+use image_layout::Layout;
+use infer_context::Context;
+use message_fields::after;
+use rules::ids::NameId;
+use write_words::put;
+ghost use Prim.Native.Nat.{ℕ, _≤_};
+ghost use lib.ListN.{length};
+ghost use Rattle.rules.specs.Syntax.{Expr, Statement};
+ghost use Rattle.rules.specs.Infer.{place};
+ghost use Rattle.rules.specs.Bodies.{assigned-field};
+ghost use Rattle.image_layout.specs.Rows.{Inside};
+ghost use Rattle.image_layout.specs.Open.{pool-words};
+ghost use Rattle.pool_bodies.specs.StatementAt.{Statement-stands};
+ghost use Rattle.infer_context.specs.Stood.{AtExpr};
+ghost use Rattle.infer_context.specs.InContext.{AtContext};
+ghost use Rattle.project_outcome.specs.Outcomes.{Comes-to};
+ghost use Rattle.project_statement.specs.Made.{assign-words};
+ghost use Rattle.project_statement.specs.Targets.{Field-agrees};
+
+pub struct Assigned {
+    pub ok: bool,
+    pub field: NameId,
+}
+
+// Its code.
+pub const ASSIGN: u32 = 3;
+
+const FIELD_ACCESS: u32 = 7;
+
+const SELF_REF: u32 = 6;
+
+// The context of its value.
+const FIELD_ASSIGNMENT: u32 = 5;
+
+// The field that a target names.
+pub fn assigned_field(image: &[u8], l: Layout, at: usize) -> Assigned
+    requires { ⌜ Inside (now image) l ⌝ }
+    ensures { λ r. ⌜ ((f nest : ℕ) → AtExpr (now (image .entry)) l nest at (λ e n. Field-agrees f (assigned-field f (place e)) r)) ⌝ }
+{
+    let pool = l.pool;
+    let field = NameId(infer_context::operand(image, l, at));
+    if image_words::section_word(image, pool, at) != FIELD_ACCESS {
+        return Assigned { ok: false, field };
+    }
+    if image_words::section_word(image, pool, infer_context::first_part(l, at)) != SELF_REF {
+        return Assigned { ok: false, field };
+    }
+    Assigned { ok: true, field }
+}
+
+// An assignment to a field of SelfRef.
+pub fn project_assign(
+    image: &[u8],
+    l: Layout,
+    at: usize,
+    ctx: Context,
+    names: &[u32],
+    words: &[u32],
+    lens: &[u32],
+    out: &mut [u8],
+    limit: usize,
+    to: usize,
+) -> Outcome
+    requires { ⌜ Inside (now image) l × (limit ≤ length (now out)) ⌝ }
+    ensures { λ r. ⌜ AtContext (now (image .entry)) l (now (names .entry)) (now (words .entry)) (now (lens .entry)) ctx (λ c. (t e : Expr) (n : ℕ) → Statement-stands (l .names .rows) (l .strings .rows) (pool-words (now (image .entry)) l) (Statement.assign t e) at n → Comes-to (assign-words c t e) limit to (now (out .entry)) (now (out .exit)) r) ⌝ }
+{
+    let pool = l.pool;
+    let function = ctx.function;
+    let target = after(pool, at);
+    let f = assigned_field(image, l, target);
+    if !f.ok {
+        return answers::answer::refused(Refusal::at(19, function));
+    }
+    let field = f.field;
+    let ty = message_fields::field_type(image, l, ctx.fields, field);
+    if !ty.some {
+        return answers::answer::refused(Refusal::named(17, function, field));
+    }
+    let a = put(out, limit, to, ASSIGN);
+    let b = put(out, limit, a, field.0);
+    let value = infer_context::skip_expr(image, l, target, NESTING);
+    project_value(
+        image,
+        l,
+        ctx,
+        names,
+        words,
+        lens,
+        value,
+        ty,
+        FIELD_ASSIGNMENT,
+        out,
+        limit,
+        b,
+    )
+}

@@ -1,0 +1,151 @@
+// Returns: what a function gives back, and 22 and 23.
+use crate::value::project_value;
+use answers::answer::Outcome;
+use answers::refusal::Refusal;
+use image_layout::Layout;
+use infer_context::Context;
+use rules::ids::NameId;
+use type_words::MaybeType;
+use write_words::put;
+ghost use mathlib.Core.Path.{_≡_};
+ghost use mathlib.Core.Bool.{false};
+ghost use mathlib.Core.List.{List, [], _∷_};
+ghost use mathlib.Core.Option.{Option, none, some};
+ghost use Prim.Native.Nat.{ℕ, _≤_};
+ghost use lib.ListN.{length};
+ghost use Rattle.rules.specs.Syntax.{ResolvedType, Expr, Statement};
+ghost use Rattle.rules.specs.Infer.{FunctionContext};
+ghost use Rattle.rules.specs.Refusal.{with-detail};
+ghost use Rattle.rules.specs.Bodies.{is-empty};
+ghost use Rattle.answers.specs.Refusals.{refusal-of};
+ghost use Rattle.type_words.specs.Holds.{MaybeHolds};
+ghost use Rattle.image_layout.specs.Rows.{Inside};
+ghost use Rattle.image_layout.specs.Open.{pool-words};
+ghost use Rattle.pool_bodies.specs.StatementAt.{Statement-stands};
+ghost use Rattle.infer_context.specs.Stood.{AtExpr};
+ghost use Rattle.infer_context.specs.InContext.{AtContext};
+ghost use Rattle.project_outcome.specs.Outcomes.{Comes-to};
+ghost use Rattle.project_statement.specs.Made.{block-words};
+
+// Its code.
+pub const RETURN: u32 = 2;
+
+// The context of its value.
+const RETURN_VALUE: u32 = 4;
+
+// 22: kind 0 a void function gives a value, 1 the value is missing, 2 the body does not end with Return.
+pub fn return_mismatch(function: NameId, kind: u32) -> Outcome
+    ensures { λ o. ⌜ (o .ok ≡ false) × (refusal-of (o .refusal) ≡ with-detail 22 (function .0) (kind ∷ [])) ⌝ }
+{
+    answers::answer::refused(Refusal::at(22, function).word(kind))
+}
+
+// A Return with no value.
+fn return_nothing(
+    function: NameId,
+    returns: MaybeType,
+    last: bool,
+    out: &mut [u8],
+    limit: usize,
+    to: usize,
+) -> Outcome
+    requires { ⌜ limit ≤ length (now out) ⌝ }
+    ensures { λ r. ⌜ ((c : FunctionContext) → function .0 ≡ c .function → (rows : ℕ) (o : Option ResolvedType) → MaybeHolds rows returns o → (ss : List Statement) → is-empty ss ≡ last → Comes-to (block-words o c (Statement.return none ∷ ss)) limit to (now (out .entry)) (now (out .exit)) r) ⌝ }
+{
+    if returns.some {
+        return return_mismatch(function, 1);
+    }
+    if !last {
+        return answers::answer::refused(Refusal::at(23, function));
+    }
+    let a = put(out, limit, to, RETURN);
+    let b = put(out, limit, a, 0);
+    answers::answer::accepted(b, 0)
+}
+
+// A Return of the value at `at`.
+fn return_value(
+    image: &[u8],
+    l: Layout,
+    at: usize,
+    ctx: Context,
+    names: &[u32],
+    words: &[u32],
+    lens: &[u32],
+    returns: MaybeType,
+    last: bool,
+    out: &mut [u8],
+    limit: usize,
+    to: usize,
+) -> Outcome
+    requires { ⌜ Inside (now image) l × (limit ≤ length (now out)) ⌝ }
+    ensures { λ r. ⌜ AtContext (now (image .entry)) l (now (names .entry)) (now (words .entry)) (now (lens .entry)) ctx (λ c. AtExpr (now (image .entry)) l 32 at (λ e n. (o : Option ResolvedType) → MaybeHolds (l .names .rows) returns o → (ss : List Statement) → is-empty ss ≡ last → Comes-to (block-words o c (Statement.return (some e) ∷ ss)) limit to (now (out .entry)) (now (out .exit)) r)) ⌝ }
+{
+    let function = ctx.function;
+    if !returns.some {
+        return return_mismatch(function, 0);
+    }
+    let a = put(out, limit, to, RETURN);
+    let b = put(out, limit, a, 1);
+    let r = project_value(
+        image,
+        l,
+        ctx,
+        names,
+        words,
+        lens,
+        at,
+        returns,
+        RETURN_VALUE,
+        out,
+        limit,
+        b,
+    );
+    if !r.ok {
+        return r;
+    }
+    if !last {
+        return answers::answer::refused(Refusal::at(23, function));
+    }
+    r
+}
+
+// A Return; `last` where no statement follows.
+pub fn project_return(
+    image: &[u8],
+    l: Layout,
+    at: usize,
+    ctx: Context,
+    names: &[u32],
+    words: &[u32],
+    lens: &[u32],
+    returns: MaybeType,
+    last: bool,
+    out: &mut [u8],
+    limit: usize,
+    to: usize,
+) -> Outcome
+    requires { ⌜ Inside (now image) l × (limit ≤ length (now out)) ⌝ }
+    ensures { λ r. ⌜ AtContext (now (image .entry)) l (now (names .entry)) (now (words .entry)) (now (lens .entry)) ctx (λ c. (v : Option Expr) (n : ℕ) → Statement-stands (l .names .rows) (l .strings .rows) (pool-words (now (image .entry)) l) (Statement.return v) at n → (o : Option ResolvedType) → MaybeHolds (l .names .rows) returns o → (ss : List Statement) → is-empty ss ≡ last → Comes-to (block-words o c (Statement.return v ∷ ss)) limit to (now (out .entry)) (now (out .exit)) r) ⌝ }
+{
+    let flag = infer_context::operand(image, l, at);
+    if flag == 0 {
+        let function = ctx.function;
+        return return_nothing(function, returns, last, out, limit, to);
+    }
+    let value = infer_context::first_part(l, at);
+    return_value(
+        image,
+        l,
+        value,
+        ctx,
+        names,
+        words,
+        lens,
+        returns,
+        last,
+        out,
+        limit,
+        to,
+    )
+}

@@ -1,0 +1,69 @@
+// A statement's value: typed, then written.
+use answers::answer::Outcome;
+use image_layout::Layout;
+use infer_context::Context;
+use type_words::MaybeType;
+ghost use mathlib.Core.Option.{Option};
+ghost use Prim.Native.Nat.{_≤_};
+ghost use lib.ListN.{length};
+ghost use Rattle.rules.specs.Syntax.{ResolvedType};
+ghost use Rattle.type_words.specs.Holds.{MaybeHolds};
+ghost use Rattle.image_layout.specs.Rows.{Inside};
+ghost use Rattle.infer_context.specs.Stood.{AtExpr};
+ghost use Rattle.infer_context.specs.InContext.{AtContext};
+ghost use Rattle.project_outcome.specs.Outcomes.{Comes-to};
+ghost use Rattle.project_statement.specs.Made.{value-of};
+
+// How deep an expression may nest.
+pub const NESTING: u32 = 32;
+
+// The value at `at` under an expected type or none; a mismatch is refused in the caller's context.
+pub fn project_value(
+    image: &[u8],
+    l: Layout,
+    ctx: Context,
+    names: &[u32],
+    words: &[u32],
+    lens: &[u32],
+    at: usize,
+    expected: MaybeType,
+    context: u32,
+    out: &mut [u8],
+    limit: usize,
+    to: usize,
+) -> Outcome
+    requires { ⌜ Inside (now image) l × (limit ≤ length (now out)) ⌝ }
+    ensures { λ r. ⌜ AtContext (now (image .entry)) l (now (names .entry)) (now (words .entry)) (now (lens .entry)) ctx (λ c. AtExpr (now (image .entry)) l 32 at (λ e n. (o : Option ResolvedType) → MaybeHolds (l .names .rows) expected o → Comes-to (value-of c e o context) limit to (now (out .entry)) (now (out .exit)) r)) ⌝ }
+{
+    let r = infer_expr::infer_expr(
+        image,
+        l,
+        ctx,
+        names,
+        words,
+        lens,
+        at,
+        NESTING,
+        expected,
+        context,
+    );
+    if r.number != 0 {
+        return project_outcome::refuse_value(ctx.function, r);
+    }
+    let ty = r.ty;
+    let next = write_expr::write_expr(
+        image,
+        l,
+        ctx,
+        names,
+        words,
+        lens,
+        at,
+        NESTING,
+        ty,
+        out,
+        limit,
+        to,
+    );
+    answers::answer::accepted(next, 0)
+}

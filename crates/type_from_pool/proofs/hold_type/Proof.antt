@@ -1,0 +1,28 @@
+-- `type_from_pool::hold_type` meets its contract. Assumes nothing.
+use Prim.Native.Nat.{ℕ}
+use mathlib.Core.Path.{sym, subst}
+use borrow.Author.Needs.{needs}
+use Rattle.rules.specs.Syntax.{run}
+use Rattle.rules.proofs.Types.{type-exact}
+use Rattle.image_words.specs.Gives.{of}
+use Rattle.image_words.specs.Stands.{Stands}
+use Rattle.image_layout.specs.Open.{pool-words}
+use Rattle.type_words.proofs.Trees.{holds}
+use Rattle.pool_types.specs.TypeAt.{type-gives}
+use Rattle.image_words.specs.Stands.{reads-at}
+use Rattle.type_from_pool.proofs.hold_type.Statement.{statement}
+use Rattle.type_from_pool.proofs.hold_type.Tie as tie
+
+returns : tie.Need-returns
+returns c t n s g =
+    let a = c .before .before .before .before .args in
+    let e = c .before .skip-type .ensures .0 (a .l .names .rows) t n (of (type-gives (a .l .names .rows) _ _) (reads-at (type-exact (a .l .names .rows)) t g s) .1 .parts) in
+    (holds (a .l .names .rows) (c .copy .ensures (run t) (subst (λ (k : ℕ). Stands (pool-words (a .image .now) (a .l)) (run t) (a .at) k) (sym e) s) (g .short)) (g .good), e)
+
+pub hold-type-spec : {M : Type 1} → statement M
+hold-type-spec =
+    tie.close
+    (tie.spec
+    (λ c κs. search needs)
+    (λ c κs. search needs)
+    returns)

@@ -1,0 +1,49 @@
+// A resolved type copied out of the pool.
+use image_layout::Layout;
+use image_words::Section;
+use type_words::HeldType;
+ghost use Prim.Native.Nat.{ℕ, _≤_};
+ghost use mathlib.Core.List.{List};
+ghost use lib.ListN.{length};
+ghost use Rattle.image_words.specs.Verdict.{section-words, Lies};
+ghost use Rattle.image_words.specs.Stands.{Stands};
+ghost use Rattle.image_layout.specs.Rows.{Inside};
+ghost use Rattle.image_layout.specs.Open.{pool-words};
+ghost use Rattle.type_words.specs.Runs.{Runs};
+ghost use Rattle.type_from_pool.specs.Held.{Types};
+
+// A type, and the place behind it.
+pub struct Held {
+    pub ty: HeldType,
+    pub next: usize,
+}
+
+// The words from `at` up to `end`, at most 64.
+fn copy(image: &[u8], pool: Section, at: usize, end: usize) -> HeldType
+    requires { ⌜ Lies (now image) pool ⌝ }
+    ensures { λ r. ⌜ ((run : List ℕ) → Stands (section-words (now (image .entry)) pool) run at end → length run ≤ 64 → Runs r run) ⌝ }
+{
+    let n = image_words::less(end, at);
+    if 64 < n {
+        return HeldType::empty();
+    }
+    let mut words = [0u32; 64];
+    let mut i = 0;
+    while i < n {
+        words[i] = image_words::section_word(image, pool, at + i);
+        i += 1;
+    }
+    HeldType { words, len: n }
+}
+
+pub fn hold_type(image: &[u8], l: Layout, at: usize) -> Held
+    requires { ⌜ Inside (now image) l ⌝ }
+    ensures { λ r. ⌜ Types (l .names .rows) (pool-words (now (image .entry)) l) at r ⌝ }
+{
+    let pool = l.pool;
+    let n = skip_types::skip_type(image, pool, at);
+    Held {
+        ty: copy(image, pool, at, n),
+        next: n,
+    }
+}

@@ -1,0 +1,43 @@
+-- Held trees: what the makers of held types give, as types of the rules. Assumes nothing.
+use Prim.Native.Nat.{ℕ}
+use mathlib.Core.Path.{_≡_, ap, ap₂}
+use mathlib.Core.List.{List, [], _∷_, _++_}
+use Rattle.rules.specs.Syntax.{ResolvedType, run}
+use Rattle.rules.specs.Kinds.{type-kind}
+use Rattle.rules.specs.declared.kinds.TypeKind.{TypeKind}
+use Rattle.rules.proofs.Good.{Good}
+use Rattle.type_words.specs.declared.HeldType.{HeldType}
+use Rattle.type_words.specs.declared.Grown.{Grown}
+use Rattle.type_words.specs.Runs.{held-run, Runs, Grows}
+use Rattle.type_words.specs.Holds.{Holds, Built}
+use Rattle.type_words.proofs.Runs.{grows-at}
+
+-- a run of a good type is the type held
+pub holds : (names : ℕ) {h : HeldType} {t : ResolvedType} → Runs h (run t) → Good names t → Holds names h t
+holds names r g = record { run = r .run; count = r .count; small = r .small; good = g }
+
+pub built : (names : ℕ) (t : ResolvedType) {r : Grown} → Grows (run t) r → Good names t → Built names r t
+built names t g good = record { ok = g .ok; holds = λ e. holds names (g .runs e) good }
+
+pub plain-holds : (names : ℕ) {h : HeldType} {c : ℕ} → Runs h (c ∷ []) → type-kind c ≡ TypeKind.Plain → Holds names h (ResolvedType.plain c)
+plain-holds names r k = holds names (unfold run in r) k
+
+pub named-holds : (names : ℕ) {h : HeldType} {n : ℕ} → Runs h (48 ∷ n ∷ []) → Holds names h (ResolvedType.named n)
+named-holds names r = holds names (unfold run in r) tt
+
+pub one-built : {names c : ℕ} {h : HeldType} {t : ResolvedType} {r : Grown}
+    → Grows (c ∷ held-run h) r → Holds names h t → type-kind c ≡ TypeKind.One → Built names r (ResolvedType.one c t)
+unfolding run
+one-built {names} {c} {t = t} g p k = built names (ResolvedType.one c t) (grows-at g (ap (λ (l : List ℕ). c ∷ l) (p .run))) (k, p .good)
+
+pub fixed-built : {names low high : ℕ} {h : HeldType} {t : ResolvedType} {r : Grown}
+    → Grows (66 ∷ low ∷ high ∷ held-run h) r → Holds names h t → Built names r (ResolvedType.fixed low high t)
+unfolding run
+fixed-built {names} {low} {high} {t = t} g p =
+    built names (ResolvedType.fixed low high t) (grows-at g (ap (λ (l : List ℕ). 66 ∷ low ∷ high ∷ l) (p .run))) (p .good)
+
+pub two-built : {names c : ℕ} {h k : HeldType} {t u : ResolvedType} {r : Grown}
+    → Grows (c ∷ (held-run h ++ held-run k)) r → Holds names h t → Holds names k u → type-kind c ≡ TypeKind.Two → Built names r (ResolvedType.two c t u)
+unfolding run
+two-built {names} {c} {t = t} {u = u} g p q k =
+    built names (ResolvedType.two c t u) (grows-at g (ap (λ (l : List ℕ). c ∷ l) (ap₂ _++_ (p .run) (q .run)))) (k, p .good, q .good)

@@ -1,0 +1,158 @@
+// A resolved type, held as its words in prefix order with their count, and the few functions that make one. Nothing is said of the words past the count.
+ghost use mathlib.Core.Path.{_≡_};
+ghost use mathlib.Core.Bool.{true, false};
+ghost use mathlib.Core.List.{[], _∷_, _++_};
+ghost use Prim.Native.Nat.{_≤_};
+ghost use lib.ListN.{length, getD};
+ghost use Rattle.type_words.specs.Runs.{held-run, Runs, Grows};
+use rules::ids::TypeId;
+
+pub struct HeldType {
+    pub words: [u32; 64],
+    pub len: usize,
+}
+
+// A type or none.
+pub struct MaybeType {
+    pub some: bool,
+    pub ty: HeldType,
+}
+
+// A type that was to grow: not ok where it would pass 64 words.
+pub struct Grown {
+    pub ok: bool,
+    pub ty: HeldType,
+}
+
+impl HeldType {
+    // Codes that no other type names.
+    pub const SUB_BYTE: u32 = 16;
+
+    pub const STRING: u32 = 32;
+
+    pub const NAMED: u32 = 48;
+
+    pub const FIXED_ARRAY: u32 = 66;
+
+    // How many words the run has.
+    pub fn count(self) -> usize
+        ensures { λ r. ⌜ (r ≡ length (held-run self)) × (r ≤ 64) ⌝ }
+    {
+        let n = self.len;
+        if n < 64 { n } else { 64 }
+    }
+
+    // A word of the run, 0 past its end.
+    pub fn word(self, i: usize) -> u32
+        ensures { λ r. ⌜ r ≡ getD (held-run self) i 0 ⌝ }
+    {
+        let n = self.count();
+        if i < n { self.words[i] } else { 0 }
+    }
+
+    pub fn empty() -> HeldType
+        ensures { λ r. ⌜ Runs r [] ⌝ }
+    {
+        HeldType {
+            words: [0u32; 64],
+            len: 0,
+        }
+    }
+
+    // A primitive or a semantic type.
+    pub fn plain(code: u32) -> HeldType
+        ensures { λ r. ⌜ Runs r (code ∷ []) ⌝ }
+    {
+        let mut words = [0u32; 64];
+        words[0] = code;
+        HeldType { words, len: 1 }
+    }
+
+    pub fn named(id: TypeId) -> HeldType
+        ensures { λ r. ⌜ Runs r (48 ∷ id .0 ∷ []) ⌝ }
+    {
+        let mut words = [0u32; 64];
+        words[0] = HeldType::NAMED;
+        words[1] = id.0;
+        HeldType { words, len: 2 }
+    }
+
+    // Another run behind this one.
+    pub fn append(self, other: HeldType) -> Grown
+        ensures { λ r. ⌜ Grows (held-run self ++ held-run other) r ⌝ }
+    {
+        let n = self.count();
+        let m = other.count();
+        if 64 - n < m {
+            return Grown {
+                ok: false,
+                ty: self,
+            };
+        }
+        let from = other.words;
+        let mut words = self.words;
+        let mut i = 0;
+        while i < m {
+            words[n + i] = from[i];
+            i += 1;
+        }
+        Grown {
+            ok: true,
+            ty: HeldType { words, len: n + m },
+        }
+    }
+
+    // A code and one part: Optional, Array, Set, the vectors and the matrices.
+    pub fn one(code: u32, part: HeldType) -> Grown
+        ensures { λ r. ⌜ Grows (code ∷ held-run part) r ⌝ }
+    {
+        HeldType::plain(code).append(part)
+    }
+
+    // A fixed array: the two words of its length and its part.
+    pub fn fixed(low: u32, high: u32, part: HeldType) -> Grown
+        ensures { λ r. ⌜ Grows (66 ∷ low ∷ high ∷ held-run part) r ⌝ }
+    {
+        HeldType::header(HeldType::FIXED_ARRAY, low, high).append(part)
+    }
+
+    // A code and two parts: Map, Result.
+    pub fn two(code: u32, left: HeldType, right: HeldType) -> Grown
+        ensures { λ r. ⌜ Grows (code ∷ (held-run left ++ held-run right)) r ⌝ }
+    {
+        let g = HeldType::one(code, left);
+        if g.ok {
+            let t = g.ty;
+            return t.append(right);
+        }
+        g
+    }
+
+    // Three words.
+    fn header(code: u32, low: u32, high: u32) -> HeldType
+        ensures { λ r. ⌜ Runs r (code ∷ low ∷ high ∷ []) ⌝ }
+    {
+        let mut words = [0u32; 64];
+        words[0] = code;
+        words[1] = low;
+        words[2] = high;
+        HeldType { words, len: 3 }
+    }
+}
+
+impl MaybeType {
+    pub fn none() -> MaybeType
+        ensures { λ r. ⌜ r .some ≡ false ⌝ }
+    {
+        MaybeType {
+            some: false,
+            ty: HeldType::empty(),
+        }
+    }
+
+    pub fn some(ty: HeldType) -> MaybeType
+        ensures { λ r. ⌜ (r .some ≡ true) × (r .ty ≡ ty) ⌝ }
+    {
+        MaybeType { some: true, ty }
+    }
+}

@@ -1,0 +1,167 @@
+// The type of an expression before it is typed: found along its left spine, so that no subtree is typed again.
+use image_layout::Layout;
+use infer_context::Context;
+use rules::ids::PrimitiveType;
+use rules::kinds::ExprKind;
+use type_words::HeldType;
+use type_words::MaybeType;
+ghost use mathlib.Core.Option.{Option};
+ghost use Prim.Native.Nat.{ℕ};
+ghost use Rattle.rules.specs.Syntax.{ResolvedType, run};
+ghost use Rattle.rules.specs.Types.{VOID};
+ghost use Rattle.rules.specs.Options.{or};
+ghost use Rattle.rules.specs.Infer.{expression-hint};
+ghost use Rattle.type_words.specs.Runs.{Runs};
+ghost use Rattle.type_words.specs.Holds.{Holds, MaybeHolds};
+ghost use Rattle.image_layout.specs.Rows.{Inside};
+ghost use Rattle.infer_context.specs.Stood.{AtExpr};
+ghost use Rattle.infer_context.specs.InContext.{AtContext};
+ghost use Rattle.write_expr_type.specs.Foretold.{left-type};
+ghost use Rattle.write_expr_type.specs.Foretells.{Foretells, ForetellsBinary};
+
+// A place's type; Void for one that is refused.
+fn or_void(m: MaybeType) -> HeldType
+    ensures { λ r. ⌜ ((names : ℕ) (o : Option ResolvedType) → MaybeHolds names m o → Holds names r (or o VOID)) ⌝ }
+{
+    if m.some {
+        let ty = m.ty;
+        return ty;
+    }
+    HeldType::plain(PrimitiveType::VOID)
+}
+
+// The type that a place has by itself.
+fn foretell_place(
+    image: &[u8],
+    l: Layout,
+    ctx: Context,
+    names: &[u32],
+    words: &[u32],
+    lens: &[u32],
+    at: usize,
+) -> HeldType
+    requires { ⌜ Inside (now image) l ⌝ }
+    ensures { λ r. ⌜ AtContext (now (image .entry)) l (now (names .entry)) (now (words .entry)) (now (lens .entry)) ctx (λ c. (nest : ℕ) → AtExpr (now (image .entry)) l nest at (λ e n. Holds (l .names .rows) r (or (expression-hint c e) VOID))) ⌝ }
+{
+    or_void(infer_context::expression_hint(image, l, ctx, names, words, lens, at))
+}
+
+pub fn foretell(
+    image: &[u8],
+    l: Layout,
+    ctx: Context,
+    names: &[u32],
+    words: &[u32],
+    lens: &[u32],
+    at: usize,
+    nest: u32,
+) -> HeldType
+    requires { ⌜ Inside (now image) l ⌝ }
+    ensures { λ r. ⌜ Foretells (now (image .entry)) l (now (names .entry)) (now (words .entry)) (now (lens .entry)) ctx at nest r ⌝ }
+{
+    if nest == 0 {
+        return HeldType::empty();
+    }
+    let pool = l.pool;
+    let k = infer_context::kind_at(image, l, at);
+    match k {
+        ExprKind::Literal => infer_leaves::literal_own(image_words::section_word(image, pool, at)),
+        ExprKind::Flag => HeldType::plain(PrimitiveType::BOOL),
+        ExprKind::Text => HeldType::plain(HeldType::STRING),
+        ExprKind::Local => foretell_place(image, l, ctx, names, words, lens, at),
+        ExprKind::SelfRef => foretell_place(image, l, ctx, names, words, lens, at),
+        ExprKind::FieldAccess => foretell_place(image, l, ctx, names, words, lens, at),
+        ExprKind::Call => HeldType::plain(PrimitiveType::VOID),
+        ExprKind::TraitMethodCall => HeldType::plain(PrimitiveType::VOID),
+        ExprKind::Binary => foretell_binary(image, l, ctx, names, words, lens, at, nest - 1),
+        ExprKind::Unary => foretell(
+            image,
+            l,
+            ctx,
+            names,
+            words,
+            lens,
+            infer_context::first_part(l, at),
+            nest - 1,
+        ),
+        ExprKind::Unknown => HeldType::empty(),
+    }
+}
+
+// A comparison's bool; else the hint, or the left's type.
+fn foretell_binary(
+    image: &[u8],
+    l: Layout,
+    ctx: Context,
+    names: &[u32],
+    words: &[u32],
+    lens: &[u32],
+    at: usize,
+    nest: u32,
+) -> HeldType
+    requires { ⌜ Inside (now image) l ⌝ }
+    ensures { λ r. ⌜ ForetellsBinary (now (image .entry)) l (now (names .entry)) (now (words .entry)) (now (lens .entry)) ctx at nest r ⌝ }
+{
+    let op = infer_context::operand(image, l, at);
+    if 4 <= op {
+        return HeldType::plain(PrimitiveType::BOOL);
+    }
+    let left = infer_context::first_part(l, at);
+    let right = infer_context::skip_expr(image, l, left, nest);
+    let h = infer_context::binary_hint(
+        image,
+        l,
+        ctx,
+        names,
+        words,
+        lens,
+        op,
+        left,
+        right,
+        MaybeType::none(),
+    );
+    if h.some {
+        let ty = h.ty;
+        return ty;
+    }
+    foretell(image, l, ctx, names, words, lens, left, nest)
+}
+
+// The type of a binary's left, from the type that the binary has.
+pub fn operand_type(
+    image: &[u8],
+    l: Layout,
+    ctx: Context,
+    names: &[u32],
+    words: &[u32],
+    lens: &[u32],
+    op: u32,
+    left: usize,
+    right: usize,
+    nest: u32,
+    ty: HeldType,
+) -> HeldType
+    requires { ⌜ Inside (now image) l ⌝ }
+    ensures { λ r. ⌜ AtContext (now (image .entry)) l (now (names .entry)) (now (words .entry)) (now (lens .entry)) ctx (λ c. AtExpr (now (image .entry)) l nest left (λ d m. AtExpr (now (image .entry)) l nest right (λ e n. (t : ResolvedType) → Runs ty (run t) → Runs r (run (left-type c op d e t))))) ⌝ }
+{
+    let h = infer_context::binary_hint(
+        image,
+        l,
+        ctx,
+        names,
+        words,
+        lens,
+        op,
+        left,
+        right,
+        MaybeType::none(),
+    );
+    if h.some {
+        let hint = h.ty;
+        return hint;
+    }
+    if op < 4 {
+        return ty;
+    }
+    foretell(image, l, ctx, names, words, lens, left, nest)
+}
