@@ -12,7 +12,7 @@ use Rattle.rules.specs.Refusal as rules
 use Rattle.rules.specs.Refusal.{Result, ok, err}
 use Rattle.rules.specs.Answer as rules-answer
 use Rattle.rules.specs.Answer.{accepted, too-short, finished}
-use Rattle.words.specs.Puts.{puts-start}
+use Rattle.words.proofs.Puts.{puts-start}
 use Rattle.answers.specs.declared.answer.Answer.{Answer}
 use Rattle.answers.specs.declared.answer.Outcome.{Outcome}
 use Rattle.answers.specs.Refusals.{refusal-of}

@@ -1,4 +1,4 @@
--- Laws of answers.
+pub mod Writes
 pub mod Fields
 pub mod Details
 pub mod Calls

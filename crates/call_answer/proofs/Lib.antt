@@ -1,2 +1,1 @@
--- Laws of the calls.
 pub mod Splits

@@ -11,7 +11,7 @@ use Rattle.rules.specs.Output.{signatures-words}
 use Rattle.rules.specs.Answer.{project-call, signatures-call}
 use Rattle.image_layout.specs.declared.Layout.{Layout}
 use Rattle.image_layout.specs.Open.{Open}
-use Rattle.laws_answers.specs.Answers.{project-bound, signatures-bound}
+use Rattle.laws_answers.proofs.Answers.{project-bound, signatures-bound}
 use Rattle.answers.specs.declared.answer.Outcome.{Outcome}
 use Rattle.answers.specs.Answers.{Comes}
 use Rattle.answers.proofs.Calls.{Accepted, comes-same}

@@ -7,9 +7,10 @@ use native.Mathlib.Nat.{le-refl}
 use lib.ListN.{length, take, drop}
 use lib.Seq.{take-at, take-length, length-take-le}
 use Rattle.rules.specs.Words.{bytes-of}
-use Rattle.words.specs.Words.{length-bytes-of}
-use Rattle.words.specs.Puts.{puts-fits}
-use Rattle.answers.specs.Writes.{Writes, writes-length}
+use Rattle.words.proofs.Words.{length-bytes-of}
+use Rattle.words.proofs.Puts.{puts-fits}
+use Rattle.answers.specs.Writes.{Writes}
+use Rattle.answers.proofs.Writes.{writes-length}
 
 -- words that fit stand at the start
 stands : {ws : List ℕ} {n : ℕ} {old new : List ℕ} → Writes ws 0 n old new → n ≤ length new → new ≡ bytes-of ws ++ drop (0 + length (bytes-of ws)) old

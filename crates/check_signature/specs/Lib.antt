@@ -1,4 +1,3 @@
-pub mod Ends
 pub mod Details
 pub mod Params
 pub mod Whole

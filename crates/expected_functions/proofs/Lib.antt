@@ -1,4 +1,3 @@
--- Laws of the signatures that a trait asks for.
 pub mod Lists
 pub mod ListLoop
 pub mod Views

@@ -15,7 +15,8 @@ use Rattle.image_layout.specs.Open.{pool-words}
 use Rattle.pool_definitions.specs.DefinitionAt.{Trait-function-stands}
 use Rattle.answers.specs.declared.answer.Outcome.{Outcome}
 use Rattle.answers.specs.Refusals.{refusal-of}
-use Rattle.answers.specs.Writes.{Writes, writes-none, writes-then, writes-same}
+use Rattle.answers.specs.Writes.{Writes}
+use Rattle.answers.proofs.Writes.{writes-none, writes-then, writes-same}
 use Rattle.answers.specs.Answers.{Comes}
 use Rattle.answers.proofs.Calls.{comes-err, comes-ok}
 use Rattle.expected_signature.specs.declared.part.Part.{Part}

@@ -1,4 +1,3 @@
--- Laws of a signature held in the table.
 pub mod Puts
 pub mod PutParts
 pub mod Enters

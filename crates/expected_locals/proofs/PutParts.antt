@@ -7,12 +7,13 @@ use mathlib.Core.Option.{Option, none, some}
 use Rattle.rules.specs.Syntax.{ResolvedType, run, Param}
 use Rattle.rules.specs.Types.{return-words}
 use Rattle.rules.specs.Output.{listed, param-words, signature-words}
-use Rattle.image_words.specs.Steps.{true-false}
+use Rattle.image_words.proofs.Steps.{true-false}
 use Rattle.type_words.specs.declared.HeldType.{HeldType}
 use Rattle.type_words.specs.declared.MaybeType.{MaybeType}
 use Rattle.type_words.specs.Runs.{Runs}
 use Rattle.type_words.specs.Holds.{Holds, MaybeHolds}
-use Rattle.write_words.specs.Written.{Written, written-then}
+use Rattle.write_words.specs.Written.{Written}
+use Rattle.write_words.proofs.Written.{written-then}
 
 runs-of : {rows : ℕ} {h : HeldType} {t : ResolvedType} → Holds rows h t → Runs h (run t)
 runs-of h = record { run = h .run; count = h .count; small = h .small }

@@ -7,7 +7,8 @@ use lib.ListN.{length}
 use Rattle.rules.specs.Syntax.{ResolvedType, Param}
 use Rattle.rules.specs.Output.{each, listed, param-words}
 use Rattle.locals.specs.Rows.{Row, Rows}
-use Rattle.write_words.specs.Written.{Written, written-none, written-then}
+use Rattle.write_words.specs.Written.{Written}
+use Rattle.write_words.proofs.Written.{written-none, written-then}
 use Rattle.expected_signature.proofs.ParamLoop.{each-snoc}
 
 module _ (rows : ℕ) (names words lens : List ℕ) (count : ℕ) where

@@ -1,4 +1,3 @@
--- Laws of a signature's parts.
 pub mod Places
 pub mod Says
 pub mod Sizes

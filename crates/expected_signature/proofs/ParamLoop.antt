@@ -14,7 +14,8 @@ use Rattle.rules.specs.Output.{each, listed, param-words}
 use Rattle.image_words.specs.Gives.{Row}
 use Rattle.image_layout.specs.declared.Layout.{Layout}
 use Rattle.image_layout.specs.Open.{pool-words}
-use Rattle.answers.specs.Writes.{Writes, writes-none, writes-then, writes-same}
+use Rattle.answers.specs.Writes.{Writes}
+use Rattle.answers.proofs.Writes.{writes-none, writes-then, writes-same}
 use Rattle.expected_signature.specs.declared.part.Part.{Part}
 use Rattle.expected_signature.specs.Here.{Param-stands, Param-here, Params-here}
 use Rattle.expected_signature.specs.Parts.{Part-says, under, resolve-param, poisoned-param}

@@ -7,8 +7,8 @@ use native.Mathlib.Omega.{arith}
 use lib.ListN.{length}
 use Rattle.rules.specs.Syntax.{ResolvedType, TypeExpr}
 use Rattle.rules.specs.Substitute.{Counted, too-large, done}
-use Rattle.image_words.specs.Steps.{true-false}
-use Rattle.image_words.specs.Sections.{length-section}
+use Rattle.image_words.proofs.Steps.{true-false}
+use Rattle.image_words.proofs.Sections.{length-section}
 use Rattle.image_layout.specs.declared.Layout.{Layout}
 use Rattle.image_layout.specs.Rows.{Inside}
 use Rattle.image_layout.specs.Open.{pool-words}

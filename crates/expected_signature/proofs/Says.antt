@@ -4,7 +4,7 @@ use mathlib.Core.Path.{_≡_, refl, sym, subst, _∙_}
 use mathlib.Core.Bool.{Bool, true, false}
 use mathlib.Core.List.{List}
 use Rattle.rules.specs.Substitute.{Counted, too-large, done}
-use Rattle.image_words.specs.Steps.{true-false}
+use Rattle.image_words.proofs.Steps.{true-false}
 use Rattle.expected_signature.specs.declared.part.Part.{Part}
 use Rattle.expected_signature.specs.Parts.{Part-done, Part-agrees, Part-says}
 

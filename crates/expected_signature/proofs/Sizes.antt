@@ -10,8 +10,8 @@ use Rattle.rules.specs.Syntax.{ResolvedType, TypeExpr, TraitReturn, TraitFnDef,
 use Rattle.rules.specs.Types.{normalize-return, return-words, same-type, VOID}
 use Rattle.rules.specs.Signatures.{resolve-params, resolve-return, resolve-signature}
 use Rattle.rules.specs.Output.{each, listed, param-words, signature-words}
-use Rattle.laws.specs.Counts.{Counts, done-counts, after-counts}
-use Rattle.laws.specs.Substitution.{substitute-accepted}
+use Rattle.laws.proofs.Counts.{Counts, done-counts, after-counts}
+use Rattle.laws.proofs.Substitution.{substitute-accepted}
 use Rattle.laws.specs.DefinitionRuns.{GoodReturn, GoodTraitFunction}
 use Rattle.expected_signature.specs.Parts.{resolve-param, normal-words, words-of}
 

@@ -8,7 +8,7 @@ use Rattle.rules.specs.Syntax.{ResolvedType, TypeExpr, TraitFnDef, CompiledSche
 use Rattle.rules.specs.Types.{contains-poison, return-words, normalize-return}
 use Rattle.rules.specs.Substitute.{Counted, too-large, done, after, substitute-type}
 use Rattle.rules.specs.Signatures.{poisoned-return, resolve-params, resolve-return, resolve-signature}
-use Rattle.image_words.specs.Steps.{true-false}
+use Rattle.image_words.proofs.Steps.{true-false}
 use Rattle.type_words.specs.declared.MaybeType.{MaybeType}
 use Rattle.type_words.specs.Runs.{held-run}
 use Rattle.type_words.specs.Holds.{MaybeHolds, Each}

@@ -11,10 +11,10 @@ use Rattle.rules.specs.Options.{is-some}
 use Rattle.rules.specs.Image.{rows, readable}
 use Rattle.image_words.specs.declared.Checked.{Checked}
 use Rattle.image_words.specs.Verdict.{Agrees, refusal, Says}
-use Rattle.image_words.specs.Steps.{true-false}
-use Rattle.image_words.specs.Says.{got, from-then, from-stop, rule-then, rule-stop}
-use Rattle.image_words.specs.Gives as gives
-use Rattle.image_words.specs.Gives.{Gives}
+use Rattle.image_words.proofs.Steps.{true-false}
+use Rattle.image_words.proofs.Says.{got, from-then, from-stop, rule-then, rule-stop}
+use Rattle.image_words.proofs.Gives as gives
+use Rattle.image_words.proofs.Gives.{Gives}
 use Rattle.image_texts.specs.Rows.{rows-differ}
 use Rattle.image_layout.specs.declared.Layout.{Layout}
 use Rattle.image_layout.specs.declared.Opened.{Opened}

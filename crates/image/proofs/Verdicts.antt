@@ -7,7 +7,7 @@ use mathlib.Core.Option.{Option, none, some}
 use Rattle.rules.specs.Syntax.{CompiledSchema}
 use Rattle.rules.specs.Options.{is-some}
 use Rattle.rules.specs.Image.{readable}
-use Rattle.image_words.specs.Steps.{true-false}
+use Rattle.image_words.proofs.Steps.{true-false}
 use Rattle.image_layout.specs.declared.Opened.{Opened}
 use Rattle.image.specs.Verdict.{Verdict}
 

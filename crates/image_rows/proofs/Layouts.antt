@@ -11,11 +11,12 @@ use Rattle.rules.specs.Kinds.{definition-kind}
 use Rattle.rules.specs.Image.{different-texts}
 use Rattle.words.specs.Words.{word-at}
 use Rattle.image_words.specs.Verdict.{section-words}
-use Rattle.image_words.specs.Sections.{section-at}
-use Rattle.image_words.specs.Gives as gives
-use Rattle.image_words.specs.Gives.{Gives, Row}
+use Rattle.image_words.proofs.Sections.{section-at}
+use Rattle.image_words.proofs.Gives as gives
+use Rattle.image_words.proofs.Gives.{Gives}
+use Rattle.image_words.specs.Gives.{Row}
 use Rattle.image_texts.specs.Rows.{row-text, rows-differ}
-use Rattle.image_texts.specs.Names.{differ-rule}
+use Rattle.image_texts.proofs.Names.{differ-rule}
 use Rattle.image_layout.specs.declared.Table.{Table}
 use Rattle.image_layout.specs.declared.Layout.{Layout}
 use Rattle.image_layout.specs.Rows.{Cut, row-word}

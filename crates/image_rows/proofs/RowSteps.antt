@@ -15,9 +15,10 @@ use Rattle.rules.specs.ReadTypes.{resolved-type}
 use Rattle.rules.specs.Image.{alias-at, definition-node, definition-row}
 use Rattle.rules.specs.declared.kinds.DefinitionKind.{DefinitionKind}
 use Rattle.image_words.specs.declared.Checked.{Checked}
-use Rattle.image_words.specs.Verdict.{section-words, Agrees, refusal, Says, Left}
-use Rattle.image_words.specs.Says.{word-in, word-then, given, from-then, from-stop, nothing, rule-alone, rule-alone-stop}
-use Rattle.image_words.specs.Loops.{turn, turn-stop, turn-done}
+use Rattle.image_words.specs.Verdict.{section-words, Agrees, refusal, Says}
+use Rattle.image_words.proofs.Verdict.{Left}
+use Rattle.image_words.proofs.Says.{word-in, word-then, given, from-then, from-stop, nothing, rule-alone, rule-alone-stop}
+use Rattle.image_words.proofs.Loops.{turn, turn-stop, turn-done}
 use Rattle.image_layout.specs.declared.Table.{Table}
 use Rattle.image_layout.specs.declared.Layout.{Layout}
 use Rattle.image_layout.specs.declared.DefinitionRow.{DefinitionRow}

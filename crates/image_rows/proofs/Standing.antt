@@ -15,10 +15,11 @@ use Rattle.rules.specs.Kinds.{definition-kind}
 use Rattle.rules.specs.Image.{alias-at, name-row, string-row, definition-node, definition-row}
 use Rattle.rules.specs.declared.kinds.DefinitionKind.{DefinitionKind}
 use Rattle.rules.proofs.Types.{type-exact}
-use Rattle.laws.specs.Definitions.{message-exact, generic-alias-exact, trait-exact, implementation-exact}
-use Rattle.image_words.specs.Gives as gives
-use Rattle.image_words.specs.Gives.{Yields, Gives, Row}
-use Rattle.image_words.specs.Stands.{exact-gives}
+use Rattle.laws.proofs.Definitions.{message-exact, generic-alias-exact, trait-exact, implementation-exact}
+use Rattle.image_words.proofs.Gives as gives
+use Rattle.image_words.proofs.Gives.{Yields, Gives}
+use Rattle.image_words.specs.Gives.{Row}
+use Rattle.image_words.proofs.Stands.{exact-gives}
 use Rattle.image_layout.specs.Open.{Stored, AliasStands, DefinitionStands}
 
 -- what is given of the words from a place on is stored there

@@ -11,10 +11,10 @@ use Rattle.rules.specs.Words.{within, words}
 use Rattle.rules.specs.Reader.{Rest, rest-at, Reader, bound, _>>=_, give, rule, first, word, from}
 use Rattle.rules.specs.Image as rules
 use Rattle.rules.specs.Image.{part, trailer, good-trailer, sections, schema, readable}
-use Rattle.words.specs.Words.{length-words}
+use Rattle.words.proofs.Words.{length-words}
 use Rattle.image_words.specs.declared.Section.{Section}
 use Rattle.image_words.specs.Verdict.{section-words}
-use Rattle.image_words.specs.Steps.{true-false}
+use Rattle.image_words.proofs.Steps.{true-false}
 use Rattle.image_layout.specs.declared.Layout.{Layout}
 use Rattle.image_layout.specs.declared.Opened.{Opened}
 use Rattle.image_layout.specs.Readers.{rows-of}

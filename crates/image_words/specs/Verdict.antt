@@ -34,7 +34,3 @@ pub record Says {A : Type 0} (r : Reader A) (ws : List ℕ) (at : ℕ) (c : Chec
 pub record After {A : Type 0} (r : Reader A) (ws : List ℕ) (h d : Checked) : Type 0 where
   pub refused : h .ok ≡ false → d ≡ h
   pub goes-on : h .ok ≡ true → Says r ws (h .next) d
-
--- in a loop: what is said of the reading that is left, from `next` on, is said of the whole, from `at` on
-pub record Left {A B : Type 0} (left : Reader A) (next : ℕ) (whole : Reader B) (ws : List ℕ) (at : ℕ) : Type 0 where
-  pub so : (d : Checked) → Says left ws next d → Says whole ws at d

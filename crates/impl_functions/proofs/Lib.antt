@@ -1,4 +1,3 @@
--- Laws of walks along functions.
 pub mod Walk
 pub mod PlaceTable
 pub mod FindByName

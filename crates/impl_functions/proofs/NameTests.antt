@@ -10,7 +10,8 @@ use Rattle.rules.specs.Syntax.{ImplFnDef, TraitFnDef}
 use Rattle.rules.specs.Refusal.{Result, in-function}
 use Rattle.rules.specs.Project.{no-repeat, no-stranger}
 use Rattle.image_layout.specs.declared.Layout.{Layout}
-use Rattle.pool_definitions.specs.Different.{names-of, take-more}
+use Rattle.pool_definitions.specs.Different.{names-of}
+use Rattle.pool_definitions.proofs.Different.{take-more}
 use Rattle.answers.specs.declared.answer.Outcome.{Outcome}
 use Rattle.answers.specs.Refusals.{refusal-of}
 use Rattle.project_outcome.specs.Outcomes.{Passes-agrees, Passes}

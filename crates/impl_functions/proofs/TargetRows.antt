@@ -9,14 +9,14 @@ use Rattle.rules.specs.Syntax.{ResolvedType, TypeDef, CompiledSchema}
 use Rattle.rules.specs.Options.{then}
 use Rattle.rules.specs.Substitute.{get, number}
 use Rattle.rules.specs.Project.{as-message}
-use Rattle.image_words.specs.Gives.{of}
+use Rattle.image_words.proofs.Gives.{of}
 use Rattle.image_layout.specs.declared.Layout.{Layout}
 use Rattle.image_layout.specs.declared.DefinitionRow.{DefinitionRow}
 use Rattle.image_layout.specs.Rows.{IsDefinitionRow}
 use Rattle.image_layout.specs.Open.{Open, pool-words}
 use Rattle.pool_types.specs.TypeAt.{Type-stands}
-use Rattle.pool_definitions.specs.DefinitionAt.{message-gives}
-use Rattle.subst_names.specs.Codes.{named-type, other-type}
+use Rattle.pool_definitions.proofs.DefinitionAt.{message-gives}
+use Rattle.subst_names.proofs.Codes.{named-type, other-type}
 use Rattle.impl_rows.specs.declared.find.Found.{Found}
 use Rattle.impl_rows.specs.Found.{Agrees, Finds}
 use Rattle.impl_rows.proofs.FindRows.{Alike, by-row}

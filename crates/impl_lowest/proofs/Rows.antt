@@ -11,7 +11,7 @@ use Rattle.rules.specs.Options.{or, then, is-some}
 use Rattle.rules.specs.Image.{readable}
 use Rattle.rules.specs.Project.{as-implementation}
 use Rattle.rules.specs.Projone.{lowest-from, lowest-implementation}
-use Rattle.image_words.specs.Steps.{true-false}
+use Rattle.image_words.proofs.Steps.{true-false}
 use Rattle.impl_rows.specs.declared.find.Found.{Found}
 use Rattle.impl_rows.specs.Found.{Agrees, Finds}
 

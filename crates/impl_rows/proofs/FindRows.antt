@@ -12,13 +12,13 @@ use Rattle.rules.specs.Substitute.{get}
 use Rattle.rules.specs.Signatures.{as-trait}
 use Rattle.rules.specs.Project.{as-implementation}
 use Rattle.rules.specs.declared.kinds.DefinitionKind.{DefinitionKind}
-use Rattle.image_words.specs.Gives.{of}
+use Rattle.image_words.proofs.Gives.{of}
 use Rattle.image_layout.specs.declared.Layout.{Layout}
 use Rattle.image_layout.specs.declared.DefinitionRow.{DefinitionRow}
 use Rattle.image_layout.specs.Rows.{IsDefinitionRow}
 use Rattle.image_layout.specs.Open.{Open, DefinitionStands, pool-words}
-use Rattle.pool_definitions.specs.DefinitionAt.{trait-gives, implementation-gives}
-use Rattle.subst_names.specs.Names.{there, past}
+use Rattle.pool_definitions.proofs.DefinitionAt.{trait-gives, implementation-gives}
+use Rattle.subst_names.proofs.NamesLaws.{there, past}
 use Rattle.impl_rows.specs.declared.find.Found.{Found}
 use Rattle.impl_rows.specs.Found.{is-impl-kind, is-trait-kind, Agrees, Finds, Impl-here, Trait-here}
 

@@ -7,7 +7,7 @@ use Rattle.rules.specs.Syntax.{TraitDef, CompiledSchema}
 use Rattle.rules.specs.Options.{then}
 use Rattle.rules.specs.Substitute.{get}
 use Rattle.rules.specs.Signatures.{as-trait}
-use Rattle.image_words.specs.Steps.{true-false}
+use Rattle.image_words.proofs.Steps.{true-false}
 use Rattle.impl_rows.specs.declared.find.Found.{Found}
 use Rattle.impl_rows.specs.Found.{Agrees, Finds}
 

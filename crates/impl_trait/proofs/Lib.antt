@@ -1,2 +1,1 @@
--- Laws of what was found.
 pub mod Found

@@ -4,7 +4,7 @@ use mathlib.Core.Path.{_≡_}
 use mathlib.Core.List.{List}
 use Rattle.rules.specs.Syntax.{run}
 use Rattle.rules.specs.Infer.{FunctionContext}
-use Rattle.rules.proofs.Types.{Stored}
+use Rattle.rules.specs.Good.{Stored}
 use Rattle.image_words.specs.Stands.{Stands}
 use Rattle.image_layout.specs.declared.Layout.{Layout}
 use Rattle.image_layout.specs.Open.{pool-words}

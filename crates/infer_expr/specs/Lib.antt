@@ -1,3 +1,1 @@
 pub mod Infers
-pub mod Arms
-pub mod Operations

@@ -1,3 +1,1 @@
 pub mod Placed
-pub mod Literals
-pub mod Plain

@@ -3,13 +3,11 @@ use Prim.Native.Nat.{ℕ, _<_}
 use mathlib.Core.Path.{_≡_}
 use mathlib.Core.Bool.{true}
 use mathlib.Core.List.{List, [], _∷_, _++_, map}
-use Rattle.rules.proofs.Exact.{Few}
+use Rattle.rules.specs.Exact.{Few, optional}
 use Rattle.rules.specs.Words.{all-different}
 use Rattle.rules.specs.Syntax.{run, expr-run, Param, ImplFnDef, TraitReturn, TraitFnDef, MessageDef, GenericAliasDef, TraitDef, ImplDef, TypeDef}
 use Rattle.rules.specs.Output.{listed}
-use Rattle.rules.proofs.Good.{AllOption}
-use Rattle.rules.proofs.Exact.{optional}
-use Rattle.rules.proofs.Types.{Stored}
+use Rattle.rules.specs.Good.{AllOption, Stored}
 use Rattle.laws.specs.TypeExprs.{StoredExpr}
 use Rattle.laws.specs.Runs.{body-words, GoodBody}
 

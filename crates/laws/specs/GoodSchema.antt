@@ -7,8 +7,7 @@ use lib.Dec.{ltb, eqb}
 use Rattle.rules.specs.Words.{NONE}
 use Rattle.rules.specs.Syntax.{Name, TypeDef, CompiledSchema}
 use Rattle.rules.specs.Image.{different-texts}
-use Rattle.rules.proofs.Good.{All, AllOption}
-use Rattle.rules.proofs.Types.{Stored}
+use Rattle.rules.specs.Good.{All, AllOption, Stored}
 use Rattle.laws.specs.DefinitionRuns.{implementation-words, GoodMessage, GoodAlias, GoodTrait, GoodImpl}
 
 -- an image has at most 65,536 bytes

@@ -1,17 +1,6 @@
-pub mod Each
-pub mod Same
 pub mod TypeExprs
-pub mod Counts
 pub mod Visits
-pub mod Depth
-pub mod Widths
 pub mod Runs
-pub mod Expressions
-pub mod Statements
 pub mod DefinitionRuns
-pub mod Definitions
 pub mod GoodSchema
-pub mod Kept
 pub mod Substitution
-pub mod Schema
-pub mod MoreNames

@@ -5,9 +5,8 @@ use lib.ListN.{length}
 use Rattle.rules.specs.Syntax.{run, Expr, Exprs, Statement, FnBody}
 use Rattle.rules.specs.ReadBodies.{lets}
 use Rattle.rules.specs.Output.{listed}
-use Rattle.rules.proofs.Good.{All, AllOption}
-use Rattle.rules.proofs.Exact.{optional}
-use Rattle.rules.proofs.Types.{Stored}
+use Rattle.rules.specs.Good.{All, AllOption, Stored}
+use Rattle.rules.specs.Exact.{optional}
 
 abbrev pub count : Exprs → ℕ
 count Exprs.nil = 0

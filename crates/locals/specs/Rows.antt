@@ -6,7 +6,7 @@ use mathlib.Core.Option.{none, some}
 use lib.ListN.{length, getD}
 use Rattle.rules.specs.Syntax.{ResolvedType, run, Param}
 use Rattle.rules.specs.Infer.{find-last}
-use Rattle.rules.proofs.Types.{Stored}
+use Rattle.rules.specs.Good.{Stored}
 use Rattle.type_from_pool.specs.Copies.{Copied}
 
 -- over the number of name rows and the table: row i is a local's name, the count of its type's words, and these words

@@ -4,7 +4,7 @@ use mathlib.Core.Path.{_≡_}
 use mathlib.Core.List.{List}
 use mathlib.Core.Option.{Option, none, some}
 use Rattle.rules.specs.Syntax.{ResolvedType, run, Param}
-use Rattle.rules.proofs.Types.{Stored}
+use Rattle.rules.specs.Good.{Stored}
 use Rattle.image_words.specs.Gives.{Counted}
 use Rattle.image_words.specs.Stands.{Stands}
 use Rattle.pool_types.specs.TypeAt.{Type-stands}

@@ -12,10 +12,13 @@ use Rattle.rules.specs.Syntax.{Statement}
 use Rattle.rules.specs.Kinds.{statement-kind}
 use Rattle.rules.specs.ReadBodies.{let-count, lets, statement, block, body}
 use Rattle.image_words.specs.declared.Checked.{Checked}
-use Rattle.image_words.specs.Verdict.{refusal, Says, Left}
-use Rattle.image_words.specs.Says.{stop, given, below-then, either-first, either-second}
-use Rattle.image_words.specs.Loops.{tested, made, test-same, test-more, test-stop, test-done, test-fails, many-stop, many-tested}
-use Rattle.pool_bodies.specs.StatementAt.{let-of, statement-lets}
+use Rattle.image_words.specs.Verdict.{refusal, Says}
+use Rattle.image_words.proofs.Verdict.{Left}
+use Rattle.image_words.proofs.Says.{stop, given, below-then, either-first, either-second}
+use Rattle.image_words.specs.Loops.{tested}
+use Rattle.image_words.proofs.Loops.{made, test-same, test-more, test-stop, test-done, test-fails, many-stop, many-tested}
+use Rattle.pool_bodies.specs.StatementAt.{let-of}
+use Rattle.pool_bodies.proofs.StatementAt.{statement-lets}
 
 -- at most 32 Lets, l of them before these statements
 abbrev few : ℕ → List Statement → Bool

@@ -1,2 +1,4 @@
+pub mod ExprAt
+pub mod StatementAt
 pub mod StatementLaws
 pub mod Blocks

@@ -10,7 +10,7 @@ use Rattle.rules.specs.ReadBodies.{statement-node, statement}
 use Rattle.rules.specs.declared.kinds.StatementKind.{StatementKind}
 use Rattle.image_words.specs.declared.Checked.{Checked}
 use Rattle.image_words.specs.Verdict.{Says}
-use Rattle.image_words.specs.Says.{word-then, stop}
+use Rattle.image_words.proofs.Says.{word-then, stop}
 
 module _ (names strings : ℕ) {ws : List ℕ} {at : ℕ} {a : Checked} (s : Says word ws at a) where
   pub statement-stop : a .ok ≡ false → Says (statement names strings) ws at a

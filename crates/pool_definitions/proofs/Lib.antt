@@ -1,1 +1,3 @@
+pub mod Different
+pub mod DefinitionAt
 pub mod TraitLoop

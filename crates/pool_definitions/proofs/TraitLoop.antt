@@ -12,11 +12,14 @@ use Rattle.rules.specs.Reader.{Reader, below, times}
 use Rattle.rules.specs.ReadTypes.{resolved-type, type-expr}
 use Rattle.rules.specs.ReadDefinitions.{trait-return, trait-function}
 use Rattle.image_words.specs.declared.Checked.{Checked}
-use Rattle.image_words.specs.Verdict.{refusal, Says, Left}
-use Rattle.image_words.specs.Says.{stop, last, given, below-then, either-first, either-second}
-use Rattle.image_words.specs.Loops.{tested, test-same, test-dead, test-more, test-stop, test-done, many-stop, many-tested}
-use Rattle.pool_definitions.specs.Different.{names-of, different-functions, different-twice, take-more}
-use Rattle.pool_definitions.specs.DefinitionAt.{trait-function-gives}
+use Rattle.image_words.specs.Verdict.{refusal, Says}
+use Rattle.image_words.proofs.Verdict.{Left}
+use Rattle.image_words.proofs.Says.{stop, last, given, below-then, either-first, either-second}
+use Rattle.image_words.specs.Loops.{tested}
+use Rattle.image_words.proofs.Loops.{test-same, test-dead, test-more, test-stop, test-done, many-stop, many-tested}
+use Rattle.pool_definitions.specs.Different.{names-of, different-functions}
+use Rattle.pool_definitions.proofs.Different.{different-twice, take-more}
+use Rattle.pool_definitions.proofs.DefinitionAt.{trait-function-gives}
 
 -- no name twice, these before the functions' own
 abbrev fresh : List ℕ → List TraitFnDef → Bool

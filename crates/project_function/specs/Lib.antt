@@ -1,4 +1,2 @@
 pub mod Made
-pub mod Passes
 pub mod Blocks
-pub mod Whole

@@ -1,3 +1,2 @@
--- Laws of the projection.
 pub mod WholeLaws
 pub mod WantedParts

@@ -21,7 +21,7 @@ use Rattle.answers.specs.Answers.{Comes}
 use Rattle.answers.proofs.Calls.{comes-err, comes-ok}
 use Rattle.project_outcome.specs.Outcomes.{Comes-to}
 use Rattle.expected_functions.specs.Asked.{in-words}
-use Rattle.project_outcome.specs.Coming.{came-err, came-ok}
+use Rattle.project_outcome.proofs.Coming.{came-err, came-ok}
 use Rattle.project_list.specs.Steps.{list-words}
 use Rattle.project_impl.specs.Steps.{tested-words, found-words, projected-words}
 use Rattle.project_impl.specs.Asked.{Few}

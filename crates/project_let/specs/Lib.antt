@@ -1,4 +1,2 @@
 pub mod Made
 pub mod Agree
-pub mod Wanted
-pub mod Lets

@@ -1,4 +1,3 @@
--- Laws of functions that are projected.
 pub mod Resolved
 pub mod StepLaws
 pub mod TypeArgs

@@ -15,10 +15,11 @@ use Rattle.image_words.specs.Gives.{Row}
 use Rattle.image_layout.specs.declared.Layout.{Layout}
 use Rattle.image_layout.specs.Open.{pool-words}
 use Rattle.answers.specs.declared.answer.Outcome.{Outcome}
-use Rattle.write_words.specs.Written.{Written, written-none, written-then}
+use Rattle.write_words.specs.Written.{Written}
+use Rattle.write_words.proofs.Written.{written-none, written-then}
 use Rattle.project_outcome.specs.Outcomes.{Comes-to}
 use Rattle.expected_signature.proofs.ParamLoop.{each-snoc}
-use Rattle.project_outcome.specs.Coming.{comes-err, comes-ok, came-err, came-ok}
+use Rattle.project_outcome.proofs.Coming.{comes-err, comes-ok, came-err, came-ok}
 use Rattle.impl_functions.specs.Functions.{Asked-here}
 use Rattle.project_list.specs.declared.parts.Parts.{Parts}
 use Rattle.project_list.specs.Steps.{one-words, list-words}

@@ -17,7 +17,7 @@ use Rattle.rules.specs.Bodies.{PortableStatement, PortableFunction, block-of, p
 use Rattle.rules.specs.Project.{find-function, project-list}
 use Rattle.rules.specs.Output.{each, listed, signature-words, statement-words, function-words, functions-words}
 use Rattle.project_function.specs.Made.{body-words-of}
-use Rattle.project_outcome.specs.Coming.{behind}
+use Rattle.project_outcome.proofs.Coming.{behind}
 use Rattle.project_list.specs.Steps.{project-one, one-words, list-words}
 
 -- the function that was found has the name

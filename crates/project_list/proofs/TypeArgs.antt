@@ -7,7 +7,8 @@ use Rattle.rules.specs.Syntax.{ResolvedType, TypeExpr}
 use Rattle.image_words.specs.Gives.{Row, Counted}
 use Rattle.pool_types.specs.TypeAt.{Type-stands}
 use Rattle.pool_type_exprs.specs.TypeExprAt.{Type-expr-at}
-use Rattle.skip_types.specs.Pending.{Pending, none-left, more-left, numbered, moved}
+use Rattle.skip_types.specs.Pending.{Pending}
+use Rattle.skip_types.proofs.Pending.{none-left, more-left, numbered, moved}
 
 module _ (names : ℕ) (ws : List ℕ) where
   types-row : (ts : List ResolvedType) (at n : ℕ) → Row (Type-stands names ws) ts at n → Pending (Type-expr-at names ws) (length ts) at n

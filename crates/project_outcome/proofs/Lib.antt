@@ -1,2 +1,4 @@
--- Laws of refusals.
+pub mod Passing
+pub mod Coming
+pub mod Said
 pub mod Refusals

@@ -1,4 +1,1 @@
 pub mod Outcomes
-pub mod Passing
-pub mod Coming
-pub mod Said

@@ -16,7 +16,7 @@ use Rattle.rules.specs.Refusal.{Result, ok, err, refusal}
 use Rattle.rules.specs.Bodies.{PortableFunction}
 use Rattle.rules.specs.Output.{functions-words}
 use Rattle.rules.specs.Answer.{Answer, refused, accepted, too-short, finished, answered, project-call, project-answer}
-use Rattle.words.specs.Words.{length-bytes-of}
+use Rattle.words.proofs.Words.{length-bytes-of}
 use Rattle.promises.specs.Projects.{Projects}
 use Rattle.promises.specs.Written.{written, Together}
 use Rattle.promises.proofs.Results.{no-ok, steps, same-ok}

@@ -14,11 +14,11 @@ use Rattle.rules.specs.CheckSignature.{check-signature}
 use Rattle.rules.specs.Bodies.{PortableFunction, block-of, project-statements, project-function}
 use Rattle.rules.specs.Project.{no-stranger, find-function, project-list, project-impl}
 use Rattle.rules.proofs.Clash.{clash}
-use Rattle.rules.proofs.Good.{All}
-use Rattle.laws_answers.specs.Ends as ends
-use Rattle.laws_answers.specs.Ends.{Ends, Any}
-use Rattle.laws_answers.specs.Erased.{any-ends}
-use Rattle.laws_answers.specs.ErasedBodies.{Comes, project-erased}
+use Rattle.rules.specs.Good.{All}
+use Rattle.laws_answers.proofs.Ends as ends
+use Rattle.laws_answers.proofs.Ends.{Ends, Any}
+use Rattle.laws_answers.proofs.Erased.{any-ends}
+use Rattle.laws_answers.proofs.ErasedBodies.{Comes, project-erased}
 use Rattle.promises.specs.Bare.{SameFunction, SameBodies}
 use Rattle.promises.proofs.Results.{ensured}
 use Rattle.promises.proofs.Parts.{parts}

@@ -15,8 +15,8 @@ use Rattle.rules.specs.Infer.{PortableExprKind, type-of, FunctionContext, Place
 use Rattle.rules.specs.Bodies.{with-local, project-return, assigned-field, project-statements, block-of, project-function}
 use Rattle.rules.specs.Project.{no-repeat, no-stranger, project-list, find-implementation, target-message, project-impl}
 use Rattle.rules.specs.Answer.{project-call}
-use Rattle.laws_answers.specs.Ends as ends
-use Rattle.laws_answers.specs.Ends.{Ends}
+use Rattle.laws_answers.proofs.Ends as ends
+use Rattle.laws_answers.proofs.Ends.{Ends}
 
 pub record Numbered (r : Refusal) : Type 0 where
   pub low : 3 ≤ r .number

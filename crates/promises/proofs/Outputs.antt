@@ -11,15 +11,15 @@ use Rattle.rules.specs.Substitute.{get}
 use Rattle.rules.specs.Bodies.{PortableFunction}
 use Rattle.rules.specs.Project.{as-implementation, find-implementation}
 use Rattle.rules.specs.Output.{functions-words}
-use Rattle.words.specs.Words.{word4-le}
-use Rattle.rules.proofs.Good.{AllOption, Below}
-use Rattle.laws.specs.Each.{at-all, then-all}
-use Rattle.rules.proofs.Exact.{Few}
+use Rattle.words.proofs.Words.{word4-le}
+use Rattle.rules.specs.Good.{AllOption, Below}
+use Rattle.laws.proofs.Each.{at-all, then-all}
+use Rattle.rules.specs.Exact.{Few}
 use Rattle.laws.specs.GoodSchema.{GoodDefinition, GoodSchema}
-use Rattle.laws.specs.Schema.{readable-good}
+use Rattle.laws.proofs.Schema.{readable-good}
 use Rattle.rules.proofs.Typed.{TypedFunction}
-use Rattle.laws.specs.MoreNames.{functions-prefix-free}
-use Rattle.laws_answers.specs.Calls.{Impl, project-ends}
+use Rattle.laws.proofs.MoreNames.{functions-prefix-free}
+use Rattle.laws_answers.proofs.Calls.{Impl, project-ends}
 use Rattle.promises.specs.Projects.{Bytes, Projects}
 use Rattle.promises.proofs.Results.{found}
 use Rattle.promises.proofs.Small.{Small}

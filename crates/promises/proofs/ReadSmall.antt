@@ -12,9 +12,9 @@ use Rattle.rules.specs.Words.{NONE, words}
 use Rattle.rules.specs.Syntax.{CompiledSchema}
 use Rattle.rules.specs.Image.{part, readable}
 use Rattle.rules.proofs.Clash.{clash}
-use Rattle.rules.proofs.Good.{Below}
+use Rattle.rules.specs.Good.{Below}
 use Rattle.laws.specs.GoodSchema.{GoodName}
-use Rattle.laws.specs.Schema.{Throughout, AliasHas, readable-held}
+use Rattle.laws.proofs.Schema.{Throughout, AliasHas, readable-held}
 use Rattle.promises.proofs.Small.{WORD, Small, small-left, small-words, all-take, all-drop, all-both}
 use Rattle.promises.proofs.SmallSchema.{SmallName, SmallSchema}
 

@@ -6,8 +6,8 @@ use native.Mathlib.Omega.{arith}
 use lib.ListN.{length, take, drop}
 use Rattle.rules.specs.Words.{words}
 use Rattle.rules.specs.Output.{each, listed}
-use Rattle.rules.proofs.Good.{All, AllOption, Below}
-use Rattle.rules.proofs.Exact.{optional}
+use Rattle.rules.specs.Good.{All, AllOption, Below}
+use Rattle.rules.specs.Exact.{optional}
 
 -- a word is below 2 to the 32
 abbrev pub WORD : ℕ

@@ -9,12 +9,12 @@ use Rattle.rules.specs.Options.{is-some}
 use Rattle.rules.specs.Infer.{type-of, FunctionContext, find-last, Place, of-local, of-self, of-field, nowhere, place}
 use Rattle.rules.specs.Bodies.{PortableStatement, is-empty, with-local, project-return, assigned-field, project-statements}
 use Rattle.rules.specs.Output.{value-words, statement-words}
-use Rattle.rules.proofs.Good.{All, AllOption}
-use Rattle.rules.proofs.Exact.{optional}
+use Rattle.rules.specs.Good.{All, AllOption}
+use Rattle.rules.specs.Exact.{optional}
 use Rattle.laws.specs.Runs.{expr-words, stored-statement-words}
-use Rattle.laws_answers.specs.Ends as ends
-use Rattle.laws_answers.specs.Ends.{Ends, Any}
-use Rattle.laws_answers.specs.Erased.{target-field}
+use Rattle.laws_answers.proofs.Ends as ends
+use Rattle.laws_answers.proofs.Ends.{Ends, Any}
+use Rattle.laws_answers.proofs.Erased.{target-field}
 use Rattle.promises.proofs.Small.{WORD, Small, all-append, small-append, small-left, small-right, small-optional}
 use Rattle.promises.proofs.SmallSchema.{SmallType, SmallParam}
 use Rattle.promises.proofs.SmallValues.{SmallContext, small-type-of, small-last, small-inferred}

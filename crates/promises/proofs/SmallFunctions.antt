@@ -16,16 +16,15 @@ use Rattle.rules.specs.CheckSignature.{check-signature}
 use Rattle.rules.specs.Bodies.{PortableFunction, block-of, project-function}
 use Rattle.rules.specs.Project.{as-message, as-implementation, no-repeat, no-stranger, find-function, project-list, find-implementation, target-message, project-impl}
 use Rattle.rules.specs.Output.{listed, param-words, signature-words, statement-words, function-words, functions-words}
-use Rattle.rules.proofs.Good.{All, AllOption}
-use Rattle.laws.specs.Each.{at-all, then-all, then-any}
-use Rattle.rules.proofs.Exact.{optional}
+use Rattle.rules.specs.Good.{All, AllOption}
+use Rattle.laws.proofs.Each.{at-all, then-all, then-any}
+use Rattle.rules.specs.Exact.{optional, Few}
 use Rattle.laws.specs.Runs.{stored-statement-words, body-words}
-use Rattle.rules.proofs.Exact.{Few}
 use Rattle.laws.specs.DefinitionRuns.{typed-words, message-words, trait-words, impl-function-words, implementation-words}
 use Rattle.rules.proofs.Typed.{TypedFunction}
-use Rattle.laws_answers.specs.Ends as ends
-use Rattle.laws_answers.specs.Ends.{Ends, Any}
-use Rattle.laws_answers.specs.Erased.{any-ends}
+use Rattle.laws_answers.proofs.Ends as ends
+use Rattle.laws_answers.proofs.Ends.{Ends, Any}
+use Rattle.laws_answers.proofs.Erased.{any-ends}
 use Rattle.promises.proofs.Small.{WORD, Small, all-both, small-append, small-left, small-right, small-listed, listed-small}
 use Rattle.promises.proofs.SmallSchema.{SmallType, SmallParam, SmallDefinition, SmallSchema}
 use Rattle.promises.proofs.SmallBodies.{SmallStored, SmallStatement, small-statements}

@@ -1,7 +1,7 @@
 -- Types, names and definitions whose words are small.
 use Prim.Native.Nat.{_<_}
 use Rattle.rules.specs.Syntax.{ResolvedType, run, Param, Name, TypeDef, CompiledSchema}
-use Rattle.rules.proofs.Good.{All, AllOption}
+use Rattle.rules.specs.Good.{All, AllOption}
 use Rattle.laws.specs.DefinitionRuns.{typed-words, definition-words}
 use Rattle.promises.proofs.Small.{WORD, Small}
 

@@ -11,11 +11,11 @@ use Rattle.rules.specs.Types.{VOID, same-type, normalize-return}
 use Rattle.rules.specs.Substitute.{Counted, too-large, done, view, substitute-type}
 use Rattle.rules.specs.Signatures.{PortableSignature, resolve-params, resolve-return, resolve-signature, expected-function, expected-list, expected-functions}
 use Rattle.rules.specs.Output.{listed}
-use Rattle.rules.proofs.Good.{All, AllOption}
+use Rattle.rules.specs.Good.{All, AllOption}
 use Rattle.laws.specs.DefinitionRuns.{own, typed-words, trait-return-words, trait-function-words, trait-words}
-use Rattle.laws.specs.Counts.{Counts, done-counts, after-counts}
-use Rattle.laws_answers.specs.Ends as ends
-use Rattle.laws_answers.specs.Ends.{Ends, Any}
+use Rattle.laws.proofs.Counts.{Counts, done-counts, after-counts}
+use Rattle.laws_answers.proofs.Ends as ends
+use Rattle.laws_answers.proofs.Ends.{Ends, Any}
 use Rattle.promises.proofs.Small.{WORD, Small, small-left, small-right, small-listed}
 use Rattle.promises.proofs.SmallSchema.{SmallType, SmallParam, SmallSchema}
 use Rattle.promises.proofs.Substituted.{small-substituted}

@@ -11,12 +11,12 @@ use Rattle.rules.specs.Fits.{literal-fits, literal-own}
 use Rattle.rules.specs.Refusal.{Result, ok}
 use Rattle.rules.specs.Infer.{PortableExpr, PortableExprKind, typed, type-of, FunctionContext, find-last, Place, of-local, of-self, of-field, nowhere, field-of, place, is-arithmetic, operand-allowed, unary-allowed, place-type, expression-hint, type-mismatch, ensure-same-type, ended, infer-literal, binary-hint, infer-expr}
 use Rattle.rules.specs.Output.{value-words, kind-words}
-use Rattle.rules.proofs.Good.{All, AllOption}
-use Rattle.laws.specs.Each.{or-else-all}
+use Rattle.rules.specs.Good.{All, AllOption}
+use Rattle.laws.proofs.Each.{or-else-all}
 use Rattle.laws.specs.Runs.{expr-words}
-use Rattle.laws_answers.specs.Ends as ends
-use Rattle.laws_answers.specs.Ends.{Ends, Any}
-use Rattle.laws_answers.specs.Erased.{any-ends}
+use Rattle.laws_answers.proofs.Ends as ends
+use Rattle.laws_answers.proofs.Ends.{Ends, Any}
+use Rattle.laws_answers.proofs.Erased.{any-ends}
 use Rattle.promises.proofs.Small.{Small, small-append, small-left, small-right}
 use Rattle.promises.proofs.SmallSchema.{SmallType, SmallParam}
 

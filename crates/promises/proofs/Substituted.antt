@@ -4,11 +4,12 @@ use native.Mathlib.Omega.{arith}
 use Rattle.rules.specs.Syntax.{ResolvedType, TypeExpr, run, expr-run, Param, CompiledSchema}
 use Rattle.rules.specs.Substitute.{substitute-type}
 use Rattle.rules.specs.Output.{listed}
-use Rattle.rules.proofs.Good.{All}
+use Rattle.rules.specs.Good.{All}
 use Rattle.laws.specs.DefinitionRuns.{own, generic-alias-words}
-use Rattle.laws.specs.Counts.{Counts}
-use Rattle.laws.specs.Kept.{Kept}
-use Rattle.laws.specs.Substitution.{Accepted, substitute-keeps}
+use Rattle.laws.proofs.Counts.{Counts}
+use Rattle.laws.proofs.Kept.{Kept}
+use Rattle.laws.specs.Substitution.{Accepted}
+use Rattle.laws.proofs.Substitution.{substitute-keeps}
 use Rattle.promises.proofs.Small.{Small, small-append, small-left, small-right}
 use Rattle.promises.proofs.SmallSchema.{SmallType, SmallName, SmallDefinition, SmallSchema}
 

@@ -1,2 +1,1 @@
--- Laws of the replay's verdict.
 pub mod Verdicts

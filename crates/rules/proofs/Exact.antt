@@ -8,23 +8,10 @@ use lib.ListN.{length}
 use Rattle.rules.specs.Reader.{Rest, Reader, repeat, times, many, option, maybe, below}
 use Rattle.rules.specs.ReadTypes.{sized}
 use Rattle.rules.specs.Output.{each, listed}
-use Rattle.rules.proofs.Good.{All, AllOption}
-use Rattle.rules.proofs.ReadBack.{Reads, below-reads, many-reads, maybe-none, maybe-some, sized-reads}
-use Rattle.rules.proofs.Gives.{Gives, so, give-gives, then-gives, last-gives, below-gives, below-then, sized-gives}
-
--- the words of a good value
-pub record Run {A : Type 0} (words : A → List ℕ) (Good : A → Type 0) (a : A) (ws : List ℕ) : Type 0 where
-  pub is : ws ≡ words a
-  pub good : Good a
-
--- 0, or 1 and the words
-abbrev pub optional : {A : Type 0} → (A → List ℕ) → Option A → List ℕ
-optional words none = 0 ∷ []
-optional words (some a) = 1 ∷ words a
-
-pub record Exact {A : Type 0} (r : Reader A) (words : A → List ℕ) (Good : A → Type 0) : Type 0 where
-  pub reads : (a : A) → Good a → Reads r (words a) a
-  pub gives : Gives r (Run words Good)
+use Rattle.rules.specs.Good.{All, AllOption}
+use Rattle.rules.specs.Exact.{Reads, Gives, Run, optional, Exact, Few}
+use Rattle.rules.proofs.ReadBack.{below-reads, many-reads, maybe-none, maybe-some, sized-reads}
+use Rattle.rules.proofs.Gives.{so, give-gives, then-gives, last-gives, below-gives, below-then, sized-gives}
 
 module _ {A : Type 0} {r : Reader A} {words : A → List ℕ} {Good : A → Type 0} (exact : Exact r words Good) where
   -- two good values whose words begin one list are one value
@@ -83,11 +70,6 @@ module _ {A : Type 0} {r : Reader A} {words : A → List ℕ} {Good : A → Type
 
 pub below-exact : (n : ℕ) → Exact (below n) (λ w. w ∷ []) (λ w. w < n)
 below-exact n = record { reads = λ w l. below-reads l; gives = so below-gives (λ w ws i. record { is = i .0; good = i .1 }) }
-
--- at most so many, each good
-pub record Few {A : Type 0} (most : ℕ) (Good : A → Type 0) (xs : List A) : Type 0 where
-  pub few : length xs ≤ most
-  pub each : All Good xs
 
 pub few-exact : {A : Type 0} {r : Reader A} {words : A → List ℕ} {Good : A → Type 0} → Exact r words Good → (most : ℕ) → Exact (many most r) (listed words) (Few most Good)
 few-exact e most = record {

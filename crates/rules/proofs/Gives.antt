@@ -11,16 +11,7 @@ use borrow.Author.Tests.{ltb-true, leb-true}
 use Rattle.rules.specs.Reader.{Rest, rest-at, Reader, bound, _>>=_, give, fail, rule, here, first, word, below, from}
 use Rattle.rules.specs.ReadTypes.{sized}
 use Rattle.rules.proofs.Clash.{clash}
-
--- from p to q some words were taken, of which P holds with the value
-pub record Found {A : Type 0} (P : A → List ℕ → Type 0) (p : Rest) (a : A) (q : Rest) : Type 0 where
-  pub words : List ℕ
-  pub left : p .left ≡ words ++ q .left
-  pub at : q .at ≡ p .at + length words
-  pub holds : P a words
-
-pub record Gives {A : Type 0} (r : Reader A) (P : A → List ℕ → Type 0) : Type 0 where
-  pub found : (p : Rest) (a : A) (q : Rest) → r p ≡ some (a, q) → Found P p a q
+use Rattle.rules.specs.Exact.{Found, Gives}
 
 no-some : {A : Type 0} (a : A) → none ≡ some a → ⊥
 no-some a e = clash (cc)

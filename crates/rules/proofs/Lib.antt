@@ -1,6 +1,5 @@
 pub mod Edges
 pub mod Clash
-pub mod Good
 pub mod ReadBack
 pub mod Gives
 pub mod Exact

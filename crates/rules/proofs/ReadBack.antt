@@ -11,10 +11,8 @@ use borrow.Author.Tests.{lt-ltb, le-leb}
 use Rattle.rules.specs.Reader.{Rest, Reader, bound, _>>=_, give, rule, here, first, word, below, repeat, times, many, option, maybe}
 use Rattle.rules.specs.ReadTypes.{sized}
 use Rattle.rules.specs.Output.{each, listed}
-use Rattle.rules.proofs.Good.{All}
-
-pub record Reads {A : Type 0} (r : Reader A) (ws : List ℕ) (a : A) : Type 0 where
-  pub on : (at : ℕ) (rest : List ℕ) → r (record { at = at; left = ws ++ rest }) ≡ some (a, record { at = at + length ws; left = rest })
+use Rattle.rules.specs.Good.{All}
+use Rattle.rules.specs.Exact.{Reads}
 
 -- the same value at the same words, at a place written otherwise
 moved : {A : Type 0} (a : A) (rest : List ℕ) {m n : ℕ} → m ≡ n → _≡_ {A = Option (A × Rest)} (some (a, record { at = m; left = rest })) (some (a, record { at = n; left = rest }))

@@ -9,9 +9,8 @@ use Rattle.rules.specs.Infer.{PortableExpr, PortableExprKind, typed}
 use Rattle.rules.specs.Bodies.{PortableStatement, PortableFunction}
 use Rattle.rules.specs.declared.kinds.ExprKind.{ExprKind}
 use Rattle.rules.specs.declared.kinds.StatementKind.{StatementKind}
-use Rattle.rules.proofs.Good.{AllOption}
-use Rattle.rules.proofs.Types.{Stored}
-use Rattle.rules.proofs.Exact.{Few}
+use Rattle.rules.specs.Good.{AllOption, Stored}
+use Rattle.rules.specs.Exact.{Few}
 
 -- how deep a typed expression nests; a leaf is 1
 abbrev mutual

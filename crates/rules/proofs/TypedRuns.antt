@@ -15,18 +15,15 @@ use Rattle.rules.specs.Bodies.{PortableStatement, PortableFunction}
 use Rattle.rules.specs.Output.{param-words, signature-words, value-words, kind-words, statement-words, function-words, functions-words, signatures-words}
 use Rattle.rules.specs.declared.kinds.ExprKind.{ExprKind}
 use Rattle.rules.specs.declared.kinds.StatementKind.{StatementKind}
-use Rattle.rules.proofs.Codes.{ExprCode, expr-code, StatementCode, statement-code}
-use Rattle.rules.proofs.ReadBack.{Reads, give-reads, then-reads, last-reads, word-reads}
+use Rattle.rules.proofs.Codes.{ExprCode, expr-code, StatementCode, statement-code, literal-kind}
+use Rattle.rules.specs.Exact.{Reads, Gives, Exact, Run, optional, Few}
+use Rattle.rules.proofs.ReadBack.{give-reads, then-reads, last-reads, word-reads}
 use Rattle.rules.proofs.Gives as gives
-use Rattle.rules.proofs.Gives.{Gives}
 use Rattle.rules.proofs.Exact as exact
-use Rattle.rules.proofs.Exact.{Exact, Run, optional, maybe-exact}
-use Rattle.rules.proofs.Types.{Stored, type-exact, wide-then, wide-gives}
-use Rattle.rules.proofs.Codes.{literal-kind}
-use Rattle.rules.proofs.Exact.{Few}
-use Rattle.rules.proofs.Exact.{few-exact}
-use Rattle.rules.proofs.Typed.{typed-nesting, kind-nesting, TypedValue, TypedKind, TypedNested, TypedStatement, TypedParam, TypedSignature, TypedFunction, kind-node}
-use Rattle.rules.proofs.Typed.{value-tree, typed-statement-node, typed-statement, typed-param, typed-signature, typed-function}
+use Rattle.rules.proofs.Exact.{maybe-exact, few-exact}
+use Rattle.rules.specs.Good.{Stored}
+use Rattle.rules.proofs.Types.{type-exact, wide-then, wide-gives}
+use Rattle.rules.proofs.Typed.{typed-nesting, kind-nesting, TypedValue, TypedKind, TypedNested, TypedStatement, TypedParam, TypedSignature, TypedFunction, kind-node, value-tree, typed-statement-node, typed-statement, typed-param, typed-signature, typed-function}
 
 module _ (names : ℕ) where
   at-kind : (f c : ℕ) (k : ExprKind) {t : ResolvedType} {ws : List ℕ} {x : PortableExprKind} → Stored names t → expr-kind c ≡ k

@@ -15,23 +15,18 @@ use Rattle.rules.specs.ReadTypes.{sub-byte, wide, bits-inline, type-node
 use Rattle.rules.specs.Output.{each, listed}
 use Rattle.rules.specs.declared.kinds.TypeKind.{TypeKind}
 use Rattle.rules.proofs.Clash.{clash}
-use Rattle.rules.proofs.Good.{Below, Good, depth}
+use Rattle.rules.specs.Good.{Below, Good, depth, Stored}
 use Rattle.rules.proofs.Codes.{TypeCode, type-code}
-use Rattle.rules.proofs.ReadBack.{Reads, give-reads, then-reads, last-reads, word-reads, rule-reads, below-then}
+use Rattle.rules.specs.Exact.{Reads, Gives, Exact, Run}
+use Rattle.rules.proofs.ReadBack.{give-reads, then-reads, last-reads, word-reads, rule-reads, below-then}
 use Rattle.rules.proofs.Gives as gives
-use Rattle.rules.proofs.Gives.{Gives}
 use Rattle.rules.proofs.Exact as exact
-use Rattle.rules.proofs.Exact.{Exact, Run, below-exact, many-exact, sized-exact}
+use Rattle.rules.proofs.Exact.{below-exact, many-exact, sized-exact}
 
 -- a good type, so deep
 pub record Deep (names f : ℕ) (t : ResolvedType) : Type 0 where
   pub good : Good names t
   pub deep : depth t ≤ f
-
--- a type as the pool holds it
-pub record Stored (names : ℕ) (t : ResolvedType) : Type 0 where
-  pub good : Good names t
-  pub short : length (run t) ≤ 64
 
 -- a type is at most as deep as its run is long
 pub depth-run : (t : ResolvedType) → depth t ≤ length (run t)

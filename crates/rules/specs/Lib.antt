@@ -21,3 +21,5 @@ pub mod Answer
 pub mod Projone
 pub mod Edges
 pub mod Computed
+pub mod Exact
+pub mod Good

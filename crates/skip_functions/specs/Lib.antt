@@ -1,3 +1,1 @@
 pub mod ExprNodes
-pub mod Statements
-pub mod Functions

@@ -1,3 +1,2 @@
 pub mod Pending
 pub mod TypeNodes
-pub mod Maybe

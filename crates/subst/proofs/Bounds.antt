@@ -7,8 +7,9 @@ use native.Mathlib.Omega.{arith}
 use borrow.Author.Tests.{lt-leb}
 use Rattle.rules.specs.Syntax.{ResolvedType, TypeExpr, Param, CompiledSchema}
 use Rattle.rules.specs.Substitute.{Counted, too-large, done, substitute-type}
-use Rattle.laws.specs.Visits.{cut, plain-depth, compared-once}
-use Rattle.laws.specs.Depth.{resolves}
+use Rattle.laws.specs.Visits.{cut, plain-depth}
+use Rattle.laws.proofs.Visits.{compared-once}
+use Rattle.laws.proofs.Depth.{resolves}
 use Rattle.type_words.specs.declared.HeldType.{HeldType}
 use Rattle.type_words.specs.Holds.{Holds}
 use Rattle.subst_leaves.specs.declared.Resolved.{Resolved}

@@ -10,11 +10,11 @@ use Rattle.rules.specs.Syntax.{ResolvedType, TypeExpr, Param, CompiledSchema}
 use Rattle.rules.specs.Types.{POISON}
 use Rattle.rules.specs.Substitute.{after, lookup-alias}
 use Rattle.laws.specs.Visits.{Rec, short, plain-expand, plain-node}
-use Rattle.image_words.specs.Steps.{true-false}
+use Rattle.image_words.proofs.Steps.{true-false}
 use Rattle.type_words.specs.declared.HeldType.{HeldType}
 use Rattle.type_words.specs.Holds.{Holds}
 use Rattle.subst_params.specs.Views.{Views, Written}
-use Rattle.subst_params.specs.Tables.{Rows-to, rows-more, views-taken}
+use Rattle.subst_params.proofs.Tables.{Rows-to, rows-more, views-taken}
 use Rattle.subst_names.specs.declared.generic.Alias.{Alias}
 use Rattle.type_from_pool.specs.Held.{Expr-stands}
 use Rattle.subst_names.specs.Aliases.{IsAlias}

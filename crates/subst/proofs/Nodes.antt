@@ -11,12 +11,12 @@ use Rattle.rules.specs.Kinds.{type-kind}
 use Rattle.rules.specs.Substitute.{Counted, too-large, done}
 use Rattle.rules.specs.declared.kinds.TypeKind.{TypeKind}
 use Rattle.laws.specs.Visits.{plain-node, plain-depth}
-use Rattle.laws.specs.Depth.{enough}
-use Rattle.image_words.specs.Sections.{length-section}
+use Rattle.laws.proofs.Depth.{enough}
+use Rattle.image_words.proofs.Sections.{length-section}
 use Rattle.image_layout.specs.declared.Layout.{Layout}
 use Rattle.image_layout.specs.Open.{pool-words}
-use Rattle.type_from_pool.specs.Heads.{expr-head, expr-inside}
-use Rattle.pool_type_exprs.specs.TypeExprAt.{expr-shape}
+use Rattle.type_from_pool.proofs.Heads.{expr-head, expr-inside}
+use Rattle.pool_type_exprs.proofs.TypeExprAt.{expr-shape}
 use Rattle.subst_leaves.specs.declared.Resolved.{Resolved}
 use Rattle.subst_leaves.specs.Says.{Fails, Says}
 use Rattle.subst_leaves.specs.Nodes.{At, Each, Substitutes, Leaves, Names, Qualifieds, Ones, Fixeds, Twos, Generics}

@@ -7,11 +7,10 @@ use lib.ListN.{length, getD, length-append}
 use Rattle.rules.specs.Syntax.{ResolvedType, TypeExpr, run, expr-run}
 use Rattle.rules.specs.Kinds.{type-kind}
 use Rattle.rules.specs.declared.kinds.TypeKind.{TypeKind}
-use Rattle.rules.proofs.Good.{GoodExpr}
-use Rattle.rules.proofs.Types.{Stored}
+use Rattle.rules.specs.Good.{GoodExpr, Stored}
 use Rattle.image_words.specs.Stands.{Stands}
-use Rattle.pool_type_exprs.specs.TypeExprAt.{expr-shape}
-use Rattle.image_words.specs.Heads.{head, tail, first, second}
+use Rattle.pool_type_exprs.proofs.TypeExprAt.{expr-shape}
+use Rattle.image_words.proofs.Heads.{head, tail, first, second}
 use Rattle.type_from_pool.specs.Held.{Expr-stands}
 
 module _ (names : ℕ) (ws : List ℕ) (at n : ℕ) where

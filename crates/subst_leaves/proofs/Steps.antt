@@ -9,7 +9,7 @@ use lib.Dec.{leb}
 use Rattle.rules.specs.Syntax.{ResolvedType, run}
 use Rattle.rules.specs.Substitute.{Counted, too-large, done, after}
 use Rattle.laws.specs.Visits.{short}
-use Rattle.image_words.specs.Steps.{true-false}
+use Rattle.image_words.proofs.Steps.{true-false}
 use Rattle.type_words.specs.declared.HeldType.{HeldType}
 use Rattle.type_words.specs.declared.Grown.{Grown}
 use Rattle.type_words.specs.Holds.{Holds, Built}

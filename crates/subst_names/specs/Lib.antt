@@ -1,4 +1,1 @@
 pub mod Aliases
-pub mod Codes
-pub mod Names
-pub mod Generic

@@ -1,1 +1,3 @@
+pub mod RowsLaws
+pub mod Tables
 pub mod Writes

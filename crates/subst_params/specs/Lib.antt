@@ -1,3 +1,1 @@
 pub mod Views
-pub mod Rows
-pub mod Tables

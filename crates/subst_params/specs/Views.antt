@@ -4,7 +4,7 @@ use mathlib.Core.Path.{_≡_}
 use mathlib.Core.List.{List, [], _∷_}
 use lib.ListN.{length, getD}
 use Rattle.rules.specs.Syntax.{ResolvedType, run, Param}
-use Rattle.rules.proofs.Types.{Stored}
+use Rattle.rules.specs.Good.{Stored}
 use Rattle.type_words.specs.declared.HeldType.{HeldType}
 use Rattle.type_words.specs.Holds.{Holds}
 use Rattle.type_from_pool.specs.Copies.{Copied}

@@ -3,7 +3,7 @@ use Prim.Native.Nat.{ℕ}
 use mathlib.Core.Path.{_≡_}
 use mathlib.Core.List.{List}
 use Rattle.rules.specs.Syntax.{ResolvedType, TypeExpr, run, expr-run}
-use Rattle.rules.proofs.Types.{Stored}
+use Rattle.rules.specs.Good.{Stored}
 use Rattle.laws.specs.TypeExprs.{StoredExpr}
 use Rattle.image_words.specs.Stands.{Stands}
 use Rattle.type_words.specs.Holds.{Holds}

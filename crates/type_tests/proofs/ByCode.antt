@@ -10,7 +10,7 @@ use borrow.Author.Tests.{ne-eqb}
 use Rattle.rules.specs.Words.{within}
 use Rattle.rules.specs.Syntax.{ResolvedType, run}
 use Rattle.rules.specs.Types.{is-numeric, is-signed-numeric, is-equality-type, is-float}
-use Rattle.rules.proofs.Good.{Good}
+use Rattle.rules.specs.Good.{Good}
 use Rattle.type_words.specs.declared.HeldType.{HeldType}
 use Rattle.type_words.specs.Holds.{Holds}
 use Rattle.codes.proofs.Codes.{in-within, off-within, primitive-in, semantic-in}

@@ -8,7 +8,7 @@ use lib.Dec.{T, ltb, eqb, ltb→lt}
 use borrow.Author.Tests.{ne-eqb}
 use Rattle.rules.specs.Syntax.{ResolvedType, run}
 use Rattle.rules.specs.Fits.{Range, Signed, Unsigned, Nothing, primitives, range-of}
-use Rattle.rules.proofs.Good.{Good}
+use Rattle.rules.specs.Good.{Good}
 use Rattle.type_words.specs.declared.HeldType.{HeldType}
 use Rattle.type_words.specs.Holds.{Holds}
 use Rattle.type_tests.proofs.Heads.{word, word-of, held-word, Off, one-off, two-off, plain-not-sub}

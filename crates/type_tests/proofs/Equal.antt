@@ -7,7 +7,7 @@ use lib.ListN.{length, getD}
 use lib.Seq.{ext-getD}
 use Rattle.rules.specs.Words.{same}
 use Rattle.rules.specs.Types.{same-type}
-use Rattle.laws.specs.Same.{same-self, same-false}
+use Rattle.laws.proofs.Same.{same-self, same-false}
 use Rattle.type_words.specs.declared.HeldType.{HeldType}
 use Rattle.type_words.specs.Runs.{held-run}
 use Rattle.type_words.proofs.Runs.{run-word}

@@ -11,8 +11,8 @@ use Rattle.rules.specs.Types.{same-type}
 use Rattle.rules.specs.Kinds.{type-kind}
 use Rattle.rules.specs.declared.kinds.TypeKind.{TypeKind}
 use Rattle.rules.proofs.Clash.{clash}
-use Rattle.rules.proofs.Good.{Good}
-use Rattle.laws.specs.Same.{same-false, same-type-self}
+use Rattle.rules.specs.Good.{Good}
+use Rattle.laws.proofs.Same.{same-false, same-type-self}
 use Rattle.type_words.specs.declared.HeldType.{HeldType}
 use Rattle.type_words.specs.Runs.{held-run}
 use Rattle.type_words.specs.Holds.{Holds}

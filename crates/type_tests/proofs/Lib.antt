@@ -1,4 +1,3 @@
--- Laws of the tests.
 pub mod Heads
 pub mod ByCode
 pub mod Returns

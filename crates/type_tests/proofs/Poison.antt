@@ -13,7 +13,7 @@ use Rattle.rules.specs.Types.{contains-poison}
 use Rattle.rules.specs.Kinds.{type-kind}
 use Rattle.rules.specs.declared.kinds.TypeKind.{TypeKind}
 use Rattle.rules.proofs.Clash.{clash}
-use Rattle.rules.proofs.Good.{Good}
+use Rattle.rules.specs.Good.{Good}
 use Rattle.type_words.specs.declared.HeldType.{HeldType}
 use Rattle.type_words.specs.Runs.{held-run}
 use Rattle.type_words.specs.Holds.{Holds}

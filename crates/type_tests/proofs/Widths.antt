@@ -10,7 +10,7 @@ use lib.IntN.{ℤ, pos}
 use lib.Signed.{mag}
 use borrow.Author.Tests.{lt-ltb, le-ltb, eq-eqb, ne-eqb, ltb-true, ltb-false}
 use Rattle.rules.specs.Fits.{takes, int-of}
-use Rattle.laws.specs.Widths.{takes-signed, takes-unsigned, mag-int-of, takes-unsigned-int}
+use Rattle.laws.proofs.Widths.{takes-signed, takes-unsigned, mag-int-of, takes-unsigned-int}
 use Rattle.type_tests.specs.declared.literals.Range.{Range}
 use Rattle.type_tests.specs.Ranges.{range}
 

@@ -1,4 +1,3 @@
--- Laws of held types.
 pub mod Runs
 pub mod Trees
 pub mod Maybe

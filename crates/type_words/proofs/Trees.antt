@@ -5,7 +5,7 @@ use mathlib.Core.List.{List, [], _∷_, _++_}
 use Rattle.rules.specs.Syntax.{ResolvedType, run}
 use Rattle.rules.specs.Kinds.{type-kind}
 use Rattle.rules.specs.declared.kinds.TypeKind.{TypeKind}
-use Rattle.rules.proofs.Good.{Good}
+use Rattle.rules.specs.Good.{Good}
 use Rattle.type_words.specs.declared.HeldType.{HeldType}
 use Rattle.type_words.specs.declared.Grown.{Grown}
 use Rattle.type_words.specs.Runs.{held-run, Runs, Grows}

@@ -7,7 +7,7 @@ use lib.ListN.{length}
 use lib.Dec.{leb}
 use Rattle.rules.specs.Syntax as Syntax
 use Rattle.rules.specs.Syntax.{ResolvedType}
-use Rattle.rules.proofs.Good.{Good}
+use Rattle.rules.specs.Good.{Good}
 use Rattle.type_words.specs.declared.HeldType.{HeldType}
 use Rattle.type_words.specs.declared.Grown.{Grown}
 use Rattle.type_words.specs.declared.MaybeType.{MaybeType}

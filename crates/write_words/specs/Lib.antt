@@ -1,3 +1,1 @@
-pub mod Prefix
 pub mod Written
-pub mod Copies

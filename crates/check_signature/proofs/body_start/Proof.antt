@@ -1,6 +1,6 @@
 -- `check_signature::body_start` meets its contract. Assumes nothing.
 use borrow.Author.Needs.{needs}
-use Rattle.check_signature.specs.Ends.{return-from}
+use Rattle.check_signature.proofs.Ends.{return-from}
 use Rattle.check_signature.proofs.body_start.Statement.{statement}
 use Rattle.check_signature.proofs.body_start.Tie as tie
 

@@ -4,7 +4,7 @@ use borrow.Author.Tests.{not-true, not-false}
 use mathlib.Core.Path.{sym, ap, _∙_}
 use Rattle.rules.specs.Types.{normalize-return}
 use Rattle.answers.specs.Refusals.{refusal-of}
-use Rattle.check_signature.specs.Whole.{other-return, alike-return}
+use Rattle.check_signature.proofs.Whole.{other-return, alike-return}
 use Rattle.check_signature.proofs.check_return.Statement.{statement}
 use Rattle.check_signature.proofs.check_return.Tie as tie
 

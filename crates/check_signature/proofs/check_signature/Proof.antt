@@ -6,9 +6,9 @@ use native.Mathlib.Omega.{arith}
 use mathlib.Core.Path.{_≡_, sym, ap, _∙_}
 use lib.ListN.{length}
 use Rattle.answers.specs.Refusals.{refusal-of}
-use Rattle.image_words.specs.Sections.{length-section}
+use Rattle.image_words.proofs.Sections.{length-section}
 use Rattle.image_layout.specs.Open.{pool-words}
-use Rattle.check_signature.specs.Whole.{other-count, other-params, alike-params, count-read, params-there, return-there, count-word}
+use Rattle.check_signature.proofs.Whole.{other-count, other-params, alike-params, count-read, params-there, return-there, count-word}
 use Rattle.check_signature.proofs.check_signature.Statement.{statement}
 use Rattle.check_signature.proofs.check_signature.Tie as tie
 

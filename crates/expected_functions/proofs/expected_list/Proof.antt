@@ -4,7 +4,7 @@ use mathlib.Core.Path.{ap, _∙_}
 use native.Mathlib.Omega.{arith}
 use borrow.Author.Tests.{not-true, not-false}
 use lib.ListN.{length}
-use Rattle.answers.specs.Writes.{writes-length}
+use Rattle.answers.proofs.Writes.{writes-length}
 use Rattle.answers.specs.Refusals.{refusal-of}
 use Rattle.expected_signature.proofs.Places.{pool-small}
 use Rattle.expected_functions.specs.Asked.{Functions-here}

@@ -1,6 +1,6 @@
 -- `image_words::check_below` meets its contract: the answers follow the reader's steps.
 use borrow.Author.Tests.{not-true, not-false}
-use Rattle.image_words.specs.Says.{below-in, below-over, below-past}
+use Rattle.image_words.proofs.Says.{below-in, below-over, below-past}
 use borrow.Author.Needs.{needs}
 use Rattle.image_words.proofs.check_below.Statement.{statement}
 use Rattle.image_words.proofs.check_below.Tie as tie

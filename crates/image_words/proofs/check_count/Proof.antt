@@ -1,7 +1,7 @@
 -- `image_words::check_count` meets its contract: the answers follow the reader's steps.
 use native.Mathlib.Omega.{arith}
 use borrow.Author.Tests.{not-true, not-false}
-use Rattle.image_words.specs.Says.{below-in, below-over, below-past}
+use Rattle.image_words.proofs.Says.{below-in, below-over, below-past}
 use borrow.Author.Needs.{needs}
 use Rattle.image_words.proofs.check_count.Statement.{statement}
 use Rattle.image_words.proofs.check_count.Tie as tie

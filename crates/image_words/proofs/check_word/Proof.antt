@@ -1,5 +1,5 @@
 -- `image_words::check_word` meets its contract: the answers follow the reader's steps.
-use Rattle.image_words.specs.Says.{word-in, word-out}
+use Rattle.image_words.proofs.Says.{word-in, word-out}
 use borrow.Author.Needs.{needs}
 use Rattle.image_words.proofs.check_word.Statement.{statement}
 use Rattle.image_words.proofs.check_word.Tie as tie

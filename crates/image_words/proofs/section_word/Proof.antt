@@ -1,6 +1,6 @@
 -- `image_words::section_word` meets its contract: the word of the section is the word at its byte of the image.
 use mathlib.Core.Path.{_∙_}
-use Rattle.image_words.specs.Sections.{section-at, section-past}
+use Rattle.image_words.proofs.Sections.{section-at, section-past}
 use borrow.Author.Needs.{needs}
 use Rattle.image_words.proofs.section_word.Statement.{statement}
 use Rattle.image_words.proofs.section_word.Tie as tie

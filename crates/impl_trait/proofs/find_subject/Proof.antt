@@ -8,7 +8,7 @@ use denote.Ref.{now}
 use lib.ListN.{getD}
 use Rattle.rules.specs.Words.{NONE}
 use Rattle.rules.specs.Refusal.{with-name}
-use Rattle.image_words.specs.Sections.{length-section}
+use Rattle.image_words.proofs.Sections.{length-section}
 use Rattle.image_layout.specs.Open.{pool-words}
 use Rattle.impl_rows.proofs.Has.{has, lacks, no-trait-at, trait-at}
 use Rattle.impl_trait.proofs.Found.{no-impl, no-trait, both, lacking, standing, parts}

@@ -1,7 +1,7 @@
 -- `infer_context::binary_hint` meets its contract. Assumes nothing.
 use borrow.Author.Needs.{needs}
 use Rattle.rules.specs.Infer.{expression-hint, binary-hint}
-use Rattle.infer_context.specs.Hints.{or-held, or-next, held-if, held-not}
+use Rattle.infer_context.proofs.Hints.{or-held, or-next, held-if, held-not}
 use Rattle.infer_context.proofs.binary_hint.Statement.{statement}
 use Rattle.infer_context.proofs.binary_hint.Tie as tie
 

@@ -2,7 +2,7 @@
 use borrow.Author.Needs.{needs}
 use mathlib.Core.Path.{sym, ap, _∙_}
 use Rattle.infer_context.specs.PlaceKinds.{place-kind}
-use Rattle.infer_context.specs.Hints.{at-local, at-own, at-field, at-nowhere}
+use Rattle.infer_context.proofs.Hints.{at-local, at-own, at-field, at-nowhere}
 use Rattle.infer_context.proofs.expression_hint.Statement.{statement}
 use Rattle.infer_context.proofs.expression_hint.Tie as tie
 

@@ -3,10 +3,10 @@ use borrow.Author.Needs.{needs}
 use native.Mathlib.Omega.{arith}
 use mathlib.Core.Path.{sym, ap, _∙_}
 use Rattle.rules.proofs.Clash.{clash}
-use Rattle.image_words.specs.Sections.{length-section}
+use Rattle.image_words.proofs.Sections.{length-section}
 use Rattle.infer_context.specs.PlaceKinds.{place-kind}
 use Rattle.infer_context.specs.declared.PlaceKind.{PlaceKind}
-use Rattle.infer_context.specs.Hints.{of-self-ref, of-other}
+use Rattle.infer_context.proofs.Hints.{of-self-ref, of-other}
 use Rattle.infer_context.proofs.field_hint.Statement.{statement}
 use Rattle.infer_context.proofs.field_hint.Tie as tie
 

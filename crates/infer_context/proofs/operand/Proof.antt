@@ -5,7 +5,7 @@ use native.Mathlib.Omega.{arith}
 use mathlib.Core.Path.{ap, _∙_}
 use denote.Ref.{now}
 use lib.ListN.{getD}
-use Rattle.image_words.specs.Sections.{length-section}
+use Rattle.image_words.proofs.Sections.{length-section}
 use Rattle.image_layout.specs.Open.{pool-words}
 use Rattle.infer_context.proofs.operand.Statement.{statement}
 use Rattle.infer_context.proofs.operand.Tie as tie

@@ -1,9 +1,9 @@
 -- `infer_context::skip_expr` meets its contract: an expression whose words stand there has its parts there. Assumes nothing.
 use borrow.Author.Needs.{needs}
-use Rattle.laws.specs.Expressions.{tree-exact}
-use Rattle.image_words.specs.Gives.{of}
-use Rattle.pool_bodies.specs.ExprAt.{expr-tree-gives}
-use Rattle.image_words.specs.Stands.{reads-at}
+use Rattle.laws.proofs.Expressions.{tree-exact}
+use Rattle.image_words.proofs.Gives.{of}
+use Rattle.pool_bodies.proofs.ExprAt.{expr-tree-gives}
+use Rattle.image_words.proofs.Stands.{reads-at}
 use Rattle.infer_context.proofs.skip_expr.Statement.{statement}
 use Rattle.infer_context.proofs.skip_expr.Tie as tie
 

@@ -10,13 +10,13 @@ use Rattle.rules.specs.Syntax.{Expr}
 use Rattle.rules.specs.Types.{BOOL, STRING}
 use Rattle.rules.specs.Infer.{infer-expr}
 use Rattle.image_layout.specs.Open.{pool-words}
-use Rattle.image_words.specs.Sections.{length-section}
+use Rattle.image_words.proofs.Sections.{length-section}
 use Rattle.infer_result.specs.Says.{Says}
-use Rattle.infer_context.specs.Nodes.{deep, binary-word, unary-word}
-use Rattle.infer_context.specs.Operands.{left-at, right-at, value-at}
-use Rattle.infer_leaves.specs.Plain.{bool-held, string-held}
-use Rattle.infer_expr.specs.Arms.{of-literal, of-flag, of-text, of-local, of-self-ref, of-field, of-call, of-method, of-binary, of-unary, of-unknown}
-use Rattle.infer_expr.specs.Operations.{left-refused, right-refused, both-typed, value-refused, value-typed}
+use Rattle.infer_context.proofs.Nodes.{deep, binary-word, unary-word}
+use Rattle.infer_context.proofs.Operands.{left-at, right-at, value-at}
+use Rattle.infer_leaves.proofs.Plain.{bool-held, string-held}
+use Rattle.infer_expr.proofs.Arms.{of-literal, of-flag, of-text, of-local, of-self-ref, of-field, of-call, of-method, of-binary, of-unary, of-unknown}
+use Rattle.infer_expr.proofs.Operations.{left-refused, right-refused, both-typed, value-refused, value-typed}
 use borrow.Fn.Kinds.{In}
 use borrow.Fn.PlainCycle.{Measures, is, falls, and}
 use Rattle.infer_expr.proofs.infer_binary.Reads as infer-binary

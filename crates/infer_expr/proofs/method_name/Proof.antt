@@ -6,8 +6,8 @@ use Prim.Native.Nat.{ℕ, _+_}
 use denote.Ref.{now}
 use lib.ListN.{getD}
 use Rattle.image_layout.specs.Open.{pool-words}
-use Rattle.image_words.specs.Sections.{length-section}
-use Rattle.infer_expr.specs.Arms.{method-word}
+use Rattle.image_words.proofs.Sections.{length-section}
+use Rattle.infer_expr.proofs.Arms.{method-word}
 use Rattle.infer_expr.proofs.method_name.Statement.{statement}
 use Rattle.infer_expr.proofs.method_name.Tie as tie
 

@@ -8,7 +8,7 @@ use Rattle.rules.specs.Infer.{type-mismatch}
 use Rattle.type_words.specs.Holds.{MaybeHolds}
 use Rattle.type_tests.specs.Literals.{literal-type}
 use Rattle.infer_result.specs.Says.{Says}
-use Rattle.infer_leaves.specs.Literals.{words-of, says-typed, says-mismatch}
+use Rattle.infer_leaves.proofs.Literals.{words-of, says-typed, says-mismatch}
 use Rattle.infer_leaves.proofs.infer_literal.Statement.{statement}
 use Rattle.infer_leaves.proofs.infer_literal.Tie as tie
 

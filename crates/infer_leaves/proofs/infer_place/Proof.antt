@@ -5,8 +5,8 @@ use mathlib.Core.Path.{subst}
 use Rattle.rules.specs.Refusal.{err, with-name}
 use Rattle.rules.specs.Infer.{expression-hint}
 use Rattle.infer_result.specs.Says.{Says}
-use Rattle.infer_context.specs.Nodes.{node}
-use Rattle.infer_leaves.specs.Placed.{says-found, says-missing}
+use Rattle.infer_context.proofs.Nodes.{node}
+use Rattle.infer_leaves.proofs.Placed.{says-found, says-missing}
 use Rattle.infer_leaves.proofs.infer_place.Statement.{statement}
 use Rattle.infer_leaves.proofs.infer_place.Tie as tie
 

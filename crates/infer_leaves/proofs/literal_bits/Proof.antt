@@ -6,8 +6,8 @@ use mathlib.Core.Path.{_≡_, ap, _∙_}
 use denote.Ref.{now}
 use lib.ListN.{getD}
 use Rattle.image_layout.specs.Open.{pool-words}
-use Rattle.image_words.specs.Sections.{length-section}
-use Rattle.infer_leaves.specs.Literals.{words-of}
+use Rattle.image_words.proofs.Sections.{length-section}
+use Rattle.infer_leaves.proofs.Literals.{words-of}
 use Rattle.infer_leaves.proofs.literal_bits.Statement.{statement}
 use Rattle.infer_leaves.proofs.literal_bits.Tie as tie
 

@@ -1,7 +1,7 @@
 -- `infer_leaves::literal_own` meets its contract. Assumes nothing.
 use borrow.Author.Needs.{needs}
 use lib.Dec.{lit<}
-use Rattle.infer_leaves.specs.Literals.{own-held, own-int, own-uint, own-float}
+use Rattle.infer_leaves.proofs.Literals.{own-held, own-int, own-uint, own-float}
 use Rattle.infer_leaves.proofs.literal_own.Statement.{statement}
 use Rattle.infer_leaves.proofs.literal_own.Tie as tie
 

@@ -2,7 +2,7 @@
 use borrow.Author.Needs.{needs}
 use native.Mathlib.Omega.{arith}
 use denote.Ref.{now}
-use Rattle.locals.specs.Adds.{added}
+use Rattle.locals.proofs.Adds.{added}
 use Rattle.locals.proofs.add_local.Statement.{statement}
 use Rattle.locals.proofs.add_local.Tie as tie
 

@@ -4,7 +4,7 @@ use Prim.Native.Nat.{_-_, _<_, _≤_}
 use mathlib.Core.Path.{_≡_, refl}
 use native.Mathlib.Omega.{arith}
 use lib.ListN.{length}
-use Rattle.locals.specs.Adds.{Filling, filling-more, filled}
+use Rattle.locals.proofs.Adds.{Filling, filling-more, filled}
 use Rattle.locals.proofs.fill_row.Statement.{statement}
 use Rattle.locals.proofs.fill_row.Tie as tie
 

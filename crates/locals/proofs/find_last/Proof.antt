@@ -1,6 +1,6 @@
 -- `locals::find_last` meets its contract. Assumes nothing.
 use borrow.Author.Needs.{needs}
-use Rattle.locals.specs.Finds.{held-last, held-none}
+use Rattle.locals.proofs.Finds.{held-last, held-none}
 use Rattle.locals.proofs.find_last.Statement.{statement}
 use Rattle.locals.proofs.find_last.Tie as tie
 

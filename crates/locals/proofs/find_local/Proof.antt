@@ -4,7 +4,7 @@ use Prim.Native.Nat.{_≤_}
 use native.Mathlib.Omega.{arith}
 use denote.Ref.{now}
 use lib.ListN.{length}
-use Rattle.locals.specs.Finds.{Apart, apart-more, search-found, search-none, short}
+use Rattle.locals.proofs.Finds.{Apart, apart-more, search-found, search-none, short}
 use Rattle.locals.proofs.find_local.Statement.{statement}
 use Rattle.locals.proofs.find_local.Tie as tie
 

@@ -8,7 +8,8 @@ use lib.ListN.{length, take, length-set}
 use Rattle.rules.specs.Syntax.{run}
 use Rattle.type_words.proofs.Runs.{counted}
 use Rattle.type_words.proofs.Trees.{holds}
-use Rattle.type_from_pool.specs.Copies.{Copied, copied-more, copied-run}
+use Rattle.type_from_pool.specs.Copies.{Copied}
+use Rattle.type_from_pool.proofs.Copies.{copied-more, copied-run}
 use Rattle.locals.proofs.local_type.Statement.{statement}
 use Rattle.locals.proofs.local_type.Tie as tie
 

@@ -3,7 +3,7 @@ use borrow.Author.Needs.{needs}
 use denote.Ref.{now}
 use Rattle.rules.specs.Infer.{find-last}
 use Rattle.image_layout.specs.Open.{pool-words}
-use Rattle.message_fields.specs.Finds.{held-place, held-nowhere}
+use Rattle.message_fields.proofs.Finds.{held-place, held-nowhere}
 use Rattle.message_fields.proofs.field_type.Statement.{statement}
 use Rattle.message_fields.proofs.field_type.Tie as tie
 

@@ -5,9 +5,9 @@ use native.Mathlib.Omega.{arith}
 use mathlib.Core.List.{List}
 use Rattle.rules.specs.Syntax.{ResolvedType, Param}
 use Rattle.image_words.specs.Verdict.{section-words}
-use Rattle.image_words.specs.Sections.{length-section}
+use Rattle.image_words.proofs.Sections.{length-section}
 use Rattle.message_fields.specs.Fields.{Fields}
-use Rattle.message_fields.specs.Finds.{Left, started, turned, done}
+use Rattle.message_fields.proofs.Finds.{Left, started, turned, done}
 use Rattle.message_fields.proofs.find_field.Statement.{statement}
 use Rattle.message_fields.proofs.find_field.Tie as tie
 

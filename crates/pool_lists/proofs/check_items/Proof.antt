@@ -3,8 +3,9 @@ use borrow.Author.Needs.{needs}
 use Prim.Native.Nat.{_-_}
 use borrow.Author.Tests.{not-true, not-false}
 use Rattle.rules.specs.Reader.{many, times}
-use Rattle.image_words.specs.Verdict.{section-words, Left}
-use Rattle.image_words.specs.Loops.{many-then, many-stop, turn, turn-stop, turn-done}
+use Rattle.image_words.specs.Verdict.{section-words}
+use Rattle.image_words.proofs.Verdict.{Left}
+use Rattle.image_words.proofs.Loops.{many-then, many-stop, turn, turn-stop, turn-done}
 use Rattle.pool_lists.specs.Items.{item-reader}
 use Rattle.pool_lists.proofs.check_items.Statement.{statement}
 use Rattle.pool_lists.proofs.check_items.Tie as tie

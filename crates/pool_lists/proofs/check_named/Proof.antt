@@ -2,7 +2,7 @@
 use borrow.Author.Needs.{needs}
 use borrow.Author.Tests.{not-true, not-false}
 use Rattle.rules.specs.ReadTypes.{param}
-use Rattle.image_words.specs.Says.{then, stop, last}
+use Rattle.image_words.proofs.Says.{then, stop, last}
 use Rattle.pool_lists.proofs.check_named.Statement.{statement}
 use Rattle.pool_lists.proofs.check_named.Tie as tie
 

@@ -1,16 +1,15 @@
 -- `pool_type_exprs::check_expr_part`, `pool_type_exprs::check_type_expr_tree` meet their contracts: each arm is a step of the reader behind its code; the level falls.
 use borrow.Author.Needs.{needs}
 use mathlib.Core.Path.{_≡_, sym, _∙_}
-use Prim.Native.Nat.{_-_, _+_, _*_}
+use Prim.Native.Nat.{_-_, _+_, _*_, ℕ, _<_}
 use denote.Ref.{now}
 use Rattle.rules.specs.declared.kinds.TypeKind.{TypeKind}
 use Rattle.image_words.specs.declared.Checked.{Checked}
 use Rattle.image_words.specs.Verdict.{section-words, Says}
 use borrow.Author.Tests.{not-true, not-false}
-use Rattle.image_words.specs.Says.{last, after-stop, after-goes, after, given, failed}
+use Rattle.image_words.proofs.Says.{last, after-stop, after-goes, after, given, failed}
 use Rattle.rules.specs.ReadTypes.{type-expr-node, type-expr-tree}
-use Rattle.image_words.specs.Trees.{type-expr-is, tree-deep, tree-stop, tree-then}
-use Prim.Native.Nat.{ℕ, _<_}
+use Rattle.image_words.proofs.Trees.{type-expr-is, tree-deep, tree-stop, tree-then}
 use borrow.Fn.Kinds.{In}
 use borrow.Fn.PlainCycle.{Measures, is, falls, and}
 use Rattle.pool_type_exprs.proofs.check_expr_part.Reads as check-expr-part

@@ -1,7 +1,7 @@
 -- `pool_type_exprs::check_qualified` meets its contract: the answers follow the reader's steps.
 use borrow.Author.Tests.{not-true, not-false}
 use Rattle.rules.specs.ReadTypes.{type-expr-node}
-use Rattle.image_words.specs.Says.{then, stop, last}
+use Rattle.image_words.proofs.Says.{then, stop, last}
 use borrow.Author.Needs.{needs}
 use Rattle.pool_type_exprs.proofs.check_qualified.Statement.{statement}
 use Rattle.pool_type_exprs.proofs.check_qualified.Tie as tie

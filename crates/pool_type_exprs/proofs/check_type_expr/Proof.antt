@@ -2,7 +2,7 @@
 use native.Mathlib.Omega.{arith}
 use borrow.Author.Tests.{not-true, not-false}
 use Rattle.rules.specs.ReadTypes.{type-expr}
-use Rattle.image_words.specs.Says.{sized-stop, sized-in, sized-over}
+use Rattle.image_words.proofs.Says.{sized-stop, sized-in, sized-over}
 use borrow.Author.Needs.{needs}
 use Rattle.pool_type_exprs.proofs.check_type_expr.Statement.{statement}
 use Rattle.pool_type_exprs.proofs.check_type_expr.Tie as tie

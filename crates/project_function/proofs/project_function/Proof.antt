@@ -5,8 +5,8 @@ use mathlib.Core.Path.{sym, ap, _∙_}
 use denote.Ref.{now}
 use Rattle.rules.specs.Refusal.{in-function}
 use Rattle.answers.specs.Refusals.{refusal-of}
-use Rattle.image_words.specs.Sections.{length-section}
-use Rattle.project_function.specs.Whole.{is-external, is-block}
+use Rattle.image_words.proofs.Sections.{length-section}
+use Rattle.project_function.proofs.Whole.{is-external, is-block}
 use Rattle.project_function.proofs.project_function.Statement.{statement}
 use Rattle.project_function.proofs.project_function.Tie as tie
 

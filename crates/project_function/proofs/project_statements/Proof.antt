@@ -1,8 +1,7 @@
 -- `project_function::project_statements` meets its contract. The loop's invariant: what the statements left come to, the whole comes to. Assumes nothing.
 use borrow.Author.Needs.{needs}
 use borrow.Author.Tests.{not-true, not-false}
-use Prim.Native.Nat.{_-_}
-use Prim.Native.Nat.{ℕ}
+use Prim.Native.Nat.{_-_, ℕ}
 use native.Mathlib.Omega.{arith}
 use mathlib.Core.Path.{_≡_, refl, sym, ap, _∙_}
 use mathlib.Core.List.{[], _∷_}
@@ -11,7 +10,8 @@ use lib.ListN.{length}
 use Rattle.rules.specs.Syntax.{ResolvedType}
 use Rattle.rules.specs.Refusal.{with-detail}
 use Rattle.project_statement.specs.Made.{block-words}
-use Rattle.project_function.specs.Blocks.{AtBlock, Left, started, returned, passed-refused, passed-on, ended-early, ended}
+use Rattle.project_function.specs.Blocks.{AtBlock}
+use Rattle.project_function.proofs.Blocks.{Left, started, returned, passed-refused, passed-on, ended-early, ended}
 use Rattle.project_function.proofs.project_statements.Statement.{statement}
 use Rattle.project_function.proofs.project_statements.Tie as tie
 

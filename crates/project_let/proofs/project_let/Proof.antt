@@ -5,8 +5,8 @@ use native.Mathlib.Omega.{arith}
 use mathlib.Core.Path.{ap, _∙_}
 use Rattle.rules.specs.Refusal.{with-name}
 use Rattle.answers.specs.Refusals.{refusal-of}
-use Rattle.image_words.specs.Sections.{length-section}
-use Rattle.project_let.specs.Lets.{name-at, type-at, let-value, let-seen, let-refused, let-entered}
+use Rattle.image_words.proofs.Sections.{length-section}
+use Rattle.project_let.proofs.Lets.{name-at, type-at, let-value, let-seen, let-refused, let-entered}
 use Rattle.project_let.proofs.project_let.Statement.{statement}
 use Rattle.project_let.proofs.project_let.Tie as tie
 

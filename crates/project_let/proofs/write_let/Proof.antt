@@ -1,9 +1,9 @@
 -- `project_let::write_let` meets its contract. Assumes nothing.
 use borrow.Author.Needs.{needs}
-use Rattle.write_words.specs.Written.{written-then}
+use Rattle.write_words.proofs.Written.{written-then}
 use Rattle.rules.specs.Syntax.{run}
 use Rattle.rules.specs.Infer.{type-of}
-use Rattle.project_let.specs.Lets.{written-let}
+use Rattle.project_let.proofs.Lets.{written-let}
 use Rattle.project_let.proofs.write_let.Statement.{statement}
 use Rattle.project_let.proofs.write_let.Tie as tie
 

@@ -7,7 +7,7 @@ use denote.Ref.{now}
 use lib.ListN.{length}
 use borrow.Author.Needs.{needs}
 use borrow.Author.Tests.{not-true, not-false}
-use Rattle.replay_cases.specs.Cases.{ok-askable}
+use Rattle.replay_cases.proofs.Cases.{ok-askable}
 use Rattle.replay.specs.Replayed.{total-from, total-of}
 use Rattle.replay.proofs.Verdicts.{grows, starts, goes-on, stops, ends}
 use Rattle.replay.proofs.replayed.Statement.{statement}

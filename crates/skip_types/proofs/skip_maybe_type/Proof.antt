@@ -1,8 +1,8 @@
 -- `skip_types::skip_maybe_type` meets its contract. Assumes nothing.
 use borrow.Author.Needs.{needs}
 use native.Mathlib.Omega.{arith}
-use Rattle.image_words.specs.Sections.{length-section}
-use Rattle.skip_types.specs.Maybe.{maybe-inside, maybe-none, maybe-some}
+use Rattle.image_words.proofs.Sections.{length-section}
+use Rattle.skip_types.proofs.Maybe.{maybe-inside, maybe-none, maybe-some}
 use Rattle.skip_types.proofs.skip_maybe_type.Statement.{statement}
 use Rattle.skip_types.proofs.skip_maybe_type.Tie as tie
 

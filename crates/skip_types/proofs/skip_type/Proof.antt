@@ -1,7 +1,7 @@
 -- `skip_types::skip_type` meets its contract. Assumes nothing.
 use borrow.Author.Needs.{needs}
 use Rattle.rules.specs.Syntax.{TypeExpr}
-use Rattle.skip_types.specs.Pending.{one-left}
+use Rattle.skip_types.proofs.Pending.{one-left}
 use Rattle.skip_types.proofs.skip_type.Statement.{statement}
 use Rattle.skip_types.proofs.skip_type.Tie as tie
 

@@ -5,10 +5,11 @@ use mathlib.Core.Path.{refl, ap, _∙_}
 use native.Mathlib.Omega.{arith}
 use Rattle.rules.specs.Kinds.{type-kind}
 use Rattle.image_words.specs.Verdict.{section-words}
-use Rattle.image_words.specs.Sections.{length-section}
+use Rattle.image_words.proofs.Sections.{length-section}
 use Rattle.pool_type_exprs.specs.TypeExprAt.{Type-expr-at}
-use Rattle.skip_types.specs.Pending.{Pending, ended, of-first, turned}
-use Rattle.skip_types.specs.TypeNodes.{type-parts, type-inside}
+use Rattle.skip_types.specs.Pending.{Pending}
+use Rattle.skip_types.proofs.Pending.{ended, of-first, turned}
+use Rattle.skip_types.proofs.TypeNodes.{type-parts, type-inside}
 use Rattle.skip_types.proofs.skip_types.Statement.{statement}
 use Rattle.skip_types.proofs.skip_types.Tie as tie
 

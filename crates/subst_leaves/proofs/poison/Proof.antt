@@ -3,11 +3,11 @@ use mathlib.Core.Path.{refl}
 use native.Mathlib.Omega.{arith}
 use borrow.Author.Needs.{needs}
 use Rattle.rules.specs.Types.{POISON}
-use Rattle.laws.specs.TypeExprs.{type-expr-exact}
+use Rattle.laws.proofs.TypeExprs.{type-expr-exact}
 use Rattle.type_words.proofs.Trees.{named-holds}
-use Rattle.image_words.specs.Gives.{of}
-use Rattle.image_words.specs.Stands.{reads-at}
-use Rattle.pool_type_exprs.specs.TypeExprAt.{type-expr-gives}
+use Rattle.image_words.proofs.Gives.{of}
+use Rattle.image_words.proofs.Stands.{reads-at}
+use Rattle.pool_type_exprs.proofs.TypeExprAt.{type-expr-gives}
 use Rattle.subst_leaves.proofs.Steps.{one-visit}
 use Rattle.subst_leaves.proofs.poison.Statement.{statement}
 use Rattle.subst_leaves.proofs.poison.Tie as tie

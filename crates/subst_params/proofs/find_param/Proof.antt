@@ -11,7 +11,7 @@ use Rattle.rules.specs.Substitute.{find-param}
 use Rattle.type_words.specs.declared.HeldType.{HeldType}
 use Rattle.type_words.specs.Holds.{Holds, MaybeHolds}
 use Rattle.subst_params.specs.Views.{Views}
-use Rattle.subst_params.specs.Rows.{found, passed, ended}
+use Rattle.subst_params.proofs.RowsLaws.{found, passed, ended}
 use Rattle.subst_params.proofs.find_param.Statement.{statement}
 use Rattle.subst_params.proofs.find_param.Tie as tie
 

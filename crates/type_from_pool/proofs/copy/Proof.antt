@@ -7,7 +7,8 @@ use denote.Ref.{now}
 use lib.ListN.{length, take, length-set}
 use Rattle.image_words.specs.Verdict.{section-words}
 use Rattle.type_words.proofs.Runs.{counted}
-use Rattle.type_from_pool.specs.Copies.{Copied, copied-more, copied-run, stands-copied}
+use Rattle.type_from_pool.specs.Copies.{Copied}
+use Rattle.type_from_pool.proofs.Copies.{copied-more, copied-run, stands-copied}
 use Rattle.type_from_pool.proofs.copy.Statement.{statement}
 use Rattle.type_from_pool.proofs.copy.Tie as tie
 

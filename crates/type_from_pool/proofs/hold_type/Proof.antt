@@ -4,12 +4,12 @@ use mathlib.Core.Path.{sym, subst}
 use borrow.Author.Needs.{needs}
 use Rattle.rules.specs.Syntax.{run}
 use Rattle.rules.proofs.Types.{type-exact}
-use Rattle.image_words.specs.Gives.{of}
+use Rattle.image_words.proofs.Gives.{of}
 use Rattle.image_words.specs.Stands.{Stands}
 use Rattle.image_layout.specs.Open.{pool-words}
 use Rattle.type_words.proofs.Trees.{holds}
-use Rattle.pool_types.specs.TypeAt.{type-gives}
-use Rattle.image_words.specs.Stands.{reads-at}
+use Rattle.pool_types.proofs.TypeAt.{type-gives}
+use Rattle.image_words.proofs.Stands.{reads-at}
 use Rattle.type_from_pool.proofs.hold_type.Statement.{statement}
 use Rattle.type_from_pool.proofs.hold_type.Tie as tie
 

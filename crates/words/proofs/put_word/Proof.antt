@@ -2,7 +2,8 @@
 use mathlib.Core.Path.{_≡_, refl, sym, ap, _∙_}
 use mathlib.Core.Logic.{⊎-elim}
 use denote.Ref.{now}
-use Rattle.words.specs.Puts.{put, put-fits, put-past, length-put, four}
+use Rattle.words.specs.Puts.{put}
+use Rattle.words.proofs.Puts.{put-fits, put-past, length-put, four}
 use native.Mathlib.Omega.{arith}
 use lib.ListN.{length, length-set}
 use borrow.Author.Needs.{needs}

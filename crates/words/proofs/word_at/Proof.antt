@@ -1,5 +1,5 @@
 -- `words::word_at` meets its contract: the bytes of a word, one by one.
-use Rattle.words.specs.Words.{past}
+use Rattle.words.proofs.Words.{past}
 use denote.Ref.{now}
 use borrow.Author.Needs.{needs}
 use Rattle.words.proofs.word_at.Statement.{statement}

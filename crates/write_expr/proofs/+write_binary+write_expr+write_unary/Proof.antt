@@ -11,13 +11,13 @@ use Rattle.rules.specs.Kinds.{expr-kind}
 use Rattle.rules.specs.Infer.{type-of, infer-expr}
 use Rattle.type_words.specs.Runs.{Runs}
 use Rattle.image_layout.specs.Open.{pool-words}
-use Rattle.image_words.specs.Sections.{length-section}
-use Rattle.infer_context.specs.Nodes.{deep, binary-word}
-use Rattle.infer_context.specs.Operands.{left-at, right-at, value-at}
+use Rattle.image_words.proofs.Sections.{length-section}
+use Rattle.infer_context.proofs.Nodes.{deep, binary-word}
+use Rattle.infer_context.proofs.Operands.{left-at, right-at, value-at}
 use Rattle.write_expr_type.specs.Foretold.{left-type}
-use Rattle.write_expr_type.specs.Accepted.{operands-of, value-of}
+use Rattle.write_expr_type.proofs.Accepted.{operands-of, value-of}
 use Rattle.write_expr.specs.Writes.{leaf-size}
-use Rattle.write_expr.specs.Parts.{written-value, leaf-of, at-binary, at-unary, binary-head, unary-head, written-binary, written-unary, left-runs, right-runs, value-runs}
+use Rattle.write_expr.proofs.Parts.{written-value, leaf-of, at-binary, at-unary, binary-head, unary-head, written-binary, written-unary, left-runs, right-runs, value-runs}
 use borrow.Fn.Kinds.{In}
 use borrow.Fn.PlainCycle.{Measures, is, falls, and}
 use Rattle.write_expr.proofs.write_binary.Reads as write-binary

@@ -10,12 +10,12 @@ use Rattle.rules.specs.Syntax.{Expr}
 use Rattle.rules.specs.Infer.{binary-hint}
 use Rattle.type_words.specs.Holds.{Holds}
 use Rattle.image_layout.specs.Open.{pool-words}
-use Rattle.image_words.specs.Sections.{length-section}
-use Rattle.infer_context.specs.Nodes.{deep, binary-word}
-use Rattle.infer_context.specs.Operands.{left-at, right-at, value-at}
-use Rattle.infer_leaves.specs.Plain.{bool-held, void-held, string-held}
+use Rattle.image_words.proofs.Sections.{length-section}
+use Rattle.infer_context.proofs.Nodes.{deep, binary-word}
+use Rattle.infer_context.proofs.Operands.{left-at, right-at, value-at}
+use Rattle.infer_leaves.proofs.Plain.{bool-held, void-held, string-held}
 use Rattle.write_expr_type.specs.Foretold.{foretold}
-use Rattle.write_expr_type.specs.Arms.{or-some, or-none, told-literal, told-flag, told-text, told-local, told-self-ref, told-field, told-call, told-method, told-binary, told-unary, told-unknown, binary-compares, binary-computes}
+use Rattle.write_expr_type.proofs.Arms.{or-some, or-none, told-literal, told-flag, told-text, told-local, told-self-ref, told-field, told-call, told-method, told-binary, told-unary, told-unknown, binary-compares, binary-computes}
 use borrow.Fn.Kinds.{In}
 use borrow.Fn.PlainCycle.{Measures, is, falls, and}
 use Rattle.write_expr_type.proofs.foretell.Reads as foretell

@@ -4,7 +4,7 @@ use mathlib.Core.Path.{sym, subst}
 use mathlib.Core.Option.{none}
 use Rattle.rules.specs.Syntax.{ResolvedType, run}
 use Rattle.type_words.specs.Runs.{Runs}
-use Rattle.write_expr_type.specs.Arms.{held-runs, left-hinted, left-own, left-foretold}
+use Rattle.write_expr_type.proofs.Arms.{held-runs, left-hinted, left-own, left-foretold}
 use Rattle.write_expr_type.proofs.operand_type.Statement.{statement}
 use Rattle.write_expr_type.proofs.operand_type.Tie as tie
 

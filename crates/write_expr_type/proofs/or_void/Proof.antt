@@ -3,8 +3,8 @@ use borrow.Author.Needs.{needs}
 use mathlib.Core.Path.{sym, subst}
 use Rattle.rules.specs.Types.{VOID}
 use Rattle.type_words.specs.Holds.{Holds}
-use Rattle.infer_leaves.specs.Plain.{void-held}
-use Rattle.write_expr_type.specs.Arms.{or-some, or-none}
+use Rattle.infer_leaves.proofs.Plain.{void-held}
+use Rattle.write_expr_type.proofs.Arms.{or-some, or-none}
 use Rattle.write_expr_type.proofs.or_void.Statement.{statement}
 use Rattle.write_expr_type.proofs.or_void.Tie as tie
 

@@ -7,8 +7,8 @@ use Prim.Native.Nat.{ℕ}
 use native.Mathlib.Omega.{arith}
 use lib.ListN.{drop}
 use lib.Seq.{length-take-le}
-use Rattle.write_words.specs.Prefix.{put-prefix}
-use Rattle.write_words.specs.Written.{written-one, written-far}
+use Rattle.write_words.proofs.Prefix.{put-prefix}
+use Rattle.write_words.proofs.Written.{written-one, written-far}
 use Rattle.write_words.proofs.put.Statement.{statement}
 use Rattle.write_words.proofs.put.Tie as tie
 

@@ -6,7 +6,8 @@ use mathlib.Core.Path.{_≡_, ap, _∙_}
 use mathlib.Core.List.{List}
 use lib.ListN.{length, take, getD}
 use Rattle.type_words.specs.Runs.{Runs}
-use Rattle.write_words.specs.Written.{Written, written-none, written-more, written-all}
+use Rattle.write_words.specs.Written.{Written}
+use Rattle.write_words.proofs.Written.{written-none, written-more, written-all}
 use Rattle.write_words.proofs.put_type.Statement.{statement}
 use Rattle.write_words.proofs.put_type.Tie as tie
 

@@ -7,10 +7,11 @@ use mathlib.Core.List.{List}
 use denote.Ref.{now}
 use lib.ListN.{length, take, getD}
 use Rattle.image_words.specs.Verdict.{section-words}
-use Rattle.image_words.specs.Sections.{length-section}
+use Rattle.image_words.proofs.Sections.{length-section}
 use Rattle.image_words.specs.Stands.{Stands}
-use Rattle.write_words.specs.Written.{Written, written-none, written-more, written-all}
-use Rattle.write_words.specs.Copies.{stands-word, stands-within}
+use Rattle.write_words.specs.Written.{Written}
+use Rattle.write_words.proofs.Written.{written-none, written-more, written-all}
+use Rattle.write_words.proofs.Copies.{stands-word, stands-within}
 use Rattle.write_words.proofs.put_words.Statement.{statement}
 use Rattle.write_words.proofs.put_words.Tie as tie
 

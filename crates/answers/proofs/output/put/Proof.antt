@@ -1,4 +1,4 @@
-use Rattle.answers.specs.Writes.{writes-one}
+use Rattle.answers.proofs.Writes.{writes-one}
 use borrow.Author.Needs.{needs}
 use Rattle.answers.proofs.output.put.Statement.{statement}
 use Rattle.answers.proofs.output.put.Tie as tie

@@ -2,7 +2,7 @@ use mathlib.Core.Path.{_≡_, sym}
 use native.Mathlib.Omega.{arith}
 use lib.ListN.{length}
 use lib.Seq.{length-take-le}
-use Rattle.answers.specs.Writes.{writes-same}
+use Rattle.answers.proofs.Writes.{writes-same}
 use Rattle.type_words.proofs.Runs.{run-take}
 use borrow.Author.Needs.{needs}
 use Rattle.answers.proofs.output.put_type.Statement.{statement}

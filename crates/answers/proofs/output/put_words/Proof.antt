@@ -6,7 +6,8 @@ use lib.ListN.{length, take, getD}
 use lib.Seq.{take-all}
 use mathlib.Core.List.{List}
 use denote.Ref.{now}
-use Rattle.words.specs.Puts.{put, puts, puts-step}
+use Rattle.words.specs.Puts.{put, puts}
+use Rattle.words.proofs.Puts.{puts-step}
 use Rattle.answers.proofs.output.put_words.Statement.{statement}
 use Rattle.answers.proofs.output.put_words.Tie as tie
 

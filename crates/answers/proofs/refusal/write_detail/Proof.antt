@@ -5,7 +5,8 @@ use mathlib.Core.List.{List}
 use denote.Ref.{now}
 use lib.ListN.{length}
 use lib.Seq.{length-take-le}
-use Rattle.words.specs.Puts.{puts, puts-start}
+use Rattle.words.specs.Puts.{puts}
+use Rattle.words.proofs.Puts.{puts-start}
 use Rattle.answers.proofs.Details.{detail-take}
 use borrow.Author.Needs.{needs}
 use Rattle.answers.proofs.refusal.write_detail.Statement.{statement}

@@ -1,7 +1,7 @@
 -- `check_signature::mismatch::add_return` meets its contract. Assumes nothing.
 use borrow.Author.Needs.{needs}
 use native.Mathlib.Omega.{arith}
-use Rattle.check_signature.specs.Details.{added-some, added-none}
+use Rattle.check_signature.proofs.Details.{added-some, added-none}
 use Rattle.check_signature.proofs.mismatch.add_return.Statement.{statement}
 use Rattle.check_signature.proofs.mismatch.add_return.Tie as tie
 

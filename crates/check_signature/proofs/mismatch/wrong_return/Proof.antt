@@ -1,7 +1,7 @@
 -- `check_signature::mismatch::wrong_return` meets its contract. Assumes nothing.
 use borrow.Author.Needs.{needs}
 use native.Mathlib.Omega.{arith}
-use Rattle.check_signature.specs.Details.{return-small, adds-word, adds-return}
+use Rattle.check_signature.proofs.Details.{return-small, adds-word, adds-return}
 use Rattle.check_signature.proofs.mismatch.wrong_return.Statement.{statement}
 use Rattle.check_signature.proofs.mismatch.wrong_return.Tie as tie
 

@@ -1,7 +1,7 @@
 -- `check_signature::mismatch::wrong_type` meets its contract. Assumes nothing.
 use borrow.Author.Needs.{needs}
 use native.Mathlib.Omega.{arith}
-use Rattle.check_signature.specs.Details.{adds, adds-word}
+use Rattle.check_signature.proofs.Details.{adds, adds-word}
 use Rattle.check_signature.proofs.mismatch.wrong_type.Statement.{statement}
 use Rattle.check_signature.proofs.mismatch.wrong_type.Tie as tie
 

@@ -1,7 +1,7 @@
 -- `check_signature::mismatch::wrong_word` meets its contract. Assumes nothing.
 use borrow.Author.Needs.{needs}
 use native.Mathlib.Omega.{arith}
-use Rattle.check_signature.specs.Details.{adds-word}
+use Rattle.check_signature.proofs.Details.{adds-word}
 use Rattle.check_signature.proofs.mismatch.wrong_word.Statement.{statement}
 use Rattle.check_signature.proofs.mismatch.wrong_word.Tie as tie
 

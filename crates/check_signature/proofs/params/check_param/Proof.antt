@@ -3,7 +3,7 @@ use borrow.Author.Needs.{needs}
 use borrow.Author.Tests.{not-true, not-false}
 use mathlib.Core.Path.{sym, ap, _∙_}
 use Rattle.answers.specs.Refusals.{refusal-of}
-use Rattle.check_signature.specs.Params.{other-name, other-type, alike}
+use Rattle.check_signature.proofs.ParamsLaws.{other-name, other-type, alike}
 use Rattle.check_signature.proofs.params.check_param.Statement.{statement}
 use Rattle.check_signature.proofs.params.check_param.Tie as tie
 

@@ -8,12 +8,12 @@ use mathlib.Core.List.{List}
 use lib.ListN.{length}
 use Rattle.rules.specs.Syntax.{ResolvedType, Param}
 use Rattle.image_words.specs.Gives.{Row}
-use Rattle.image_words.specs.Sections.{length-section}
+use Rattle.image_words.proofs.Sections.{length-section}
 use Rattle.image_layout.specs.Open.{pool-words}
 use Rattle.pool_types.specs.TypeAt.{Type-stands}
 use Rattle.pool_types.specs.ParamAt.{Param-at}
 use Rattle.locals.specs.Rows.{Rows}
-use Rattle.check_signature.specs.Params.{Left, started, done, refusing, turned}
+use Rattle.check_signature.proofs.ParamsLaws.{Left, started, done, refusing, turned}
 use Rattle.check_signature.proofs.params.check_params.Statement.{statement}
 use Rattle.check_signature.proofs.params.check_params.Tie as tie
 

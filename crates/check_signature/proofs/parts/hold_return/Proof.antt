@@ -1,8 +1,8 @@
 -- `check_signature::parts::hold_return` meets its contract. Assumes nothing.
 use borrow.Author.Needs.{needs}
 use native.Mathlib.Omega.{arith}
-use Rattle.image_words.specs.Sections.{length-section}
-use Rattle.check_signature.specs.Ends.{no-return, held-return}
+use Rattle.image_words.proofs.Sections.{length-section}
+use Rattle.check_signature.proofs.Ends.{no-return, held-return}
 use Rattle.check_signature.proofs.parts.hold_return.Statement.{statement}
 use Rattle.check_signature.proofs.parts.hold_return.Tie as tie
 

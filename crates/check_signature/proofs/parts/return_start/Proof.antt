@@ -1,8 +1,8 @@
 -- `check_signature::parts::return_start` meets its contract. Assumes nothing.
 use borrow.Author.Needs.{needs}
 use native.Mathlib.Omega.{arith}
-use Rattle.image_words.specs.Sections.{length-section}
-use Rattle.check_signature.specs.Ends.{params-from}
+use Rattle.image_words.proofs.Sections.{length-section}
+use Rattle.check_signature.proofs.Ends.{params-from}
 use Rattle.check_signature.proofs.parts.return_start.Statement.{statement}
 use Rattle.check_signature.proofs.parts.return_start.Tie as tie
 

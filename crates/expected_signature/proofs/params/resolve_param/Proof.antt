@@ -3,7 +3,7 @@ use native.Mathlib.Omega.{arith}
 use borrow.Author.Tests.{not-true, not-false}
 use Rattle.rules.specs.Substitute.{substitute-type}
 use Rattle.rules.specs.Output.{param-words}
-use Rattle.answers.specs.Writes.{writes-then, writes-same}
+use Rattle.answers.proofs.Writes.{writes-then, writes-same}
 use Rattle.expected_signature.proofs.Places.{pool-small, expr-here, is-large, taken}
 use Rattle.expected_signature.proofs.Says.{says-done, says-large}
 use Rattle.expected_signature.proofs.Wholes.{param-is, param-large, param-done}

@@ -4,7 +4,7 @@ use mathlib.Core.Path.{_∙_}
 use native.Mathlib.Omega.{arith}
 use borrow.Author.Tests.{not-true, not-false}
 use lib.ListN.{length}
-use Rattle.answers.specs.Writes.{writes-length}
+use Rattle.answers.proofs.Writes.{writes-length}
 use Rattle.expected_signature.specs.Here.{Params-here}
 use Rattle.expected_signature.proofs.Places.{pool-small}
 use Rattle.expected_signature.proofs.ParamLoop.{Left, start, turn-here, turn-stops, turn-goes, ended}

@@ -1,7 +1,7 @@
 use mathlib.Core.Path.{refl}
 use borrow.Author.Tests.{not-true, not-false}
 use Rattle.rules.specs.Types.{normalize-return}
-use Rattle.answers.specs.Writes.{writes-then, writes-same}
+use Rattle.answers.proofs.Writes.{writes-then, writes-same}
 use Rattle.expected_signature.proofs.Wholes.{none-words, none-clean, some-words, some-clean}
 use borrow.Author.Needs.{needs}
 use Rattle.expected_signature.proofs.returns.put_return.Statement.{statement}

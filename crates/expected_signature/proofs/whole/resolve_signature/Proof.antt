@@ -6,7 +6,7 @@ use native.Mathlib.Omega.{arith}
 use borrow.Author.Tests.{not-true, not-false}
 use Rattle.rules.specs.Output.{listed, param-words, signature-words}
 use Rattle.expected_signature.specs.Parts.{normal-words}
-use Rattle.answers.specs.Writes.{writes-then, writes-same}
+use Rattle.answers.proofs.Writes.{writes-then, writes-same}
 use Rattle.expected_signature.proofs.Places.{pool-small}
 use Rattle.expected_signature.proofs.Says.{says-done, says-large, part-large, made}
 use Rattle.expected_signature.proofs.Wholes.{signature-large, return-large, signature-done}

@@ -1,7 +1,7 @@
 -- `image_rows::check_definition_row` meets its contract. Assumes nothing.
 use mathlib.Core.Path.{refl}
 use Rattle.rules.specs.Image.{definition-node}
-use Rattle.image_words.specs.Says.{given, failed}
+use Rattle.image_words.proofs.Says.{given, failed}
 use Rattle.image_rows.proofs.RowSteps.{elsewhere, definition-then}
 use borrow.Author.Needs.{needs}
 use Rattle.image_rows.proofs.definitions.check_definition_row.Statement.{statement}

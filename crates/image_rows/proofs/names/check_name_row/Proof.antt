@@ -1,7 +1,7 @@
 -- `image_rows::check_name_row` meets its contract. Assumes nothing.
 use borrow.Author.Tests.{not-true, not-false}
 use Rattle.rules.specs.Image.{name-row}
-use Rattle.image_words.specs.Says.{last, rule-then, rule-stop}
+use Rattle.image_words.proofs.Says.{last, rule-then, rule-stop}
 use Rattle.image_rows.proofs.RowSteps.{four-then, alias-none, alias-read}
 use borrow.Author.Needs.{needs}
 use Rattle.image_rows.proofs.names.check_name_row.Statement.{statement}

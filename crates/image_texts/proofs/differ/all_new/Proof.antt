@@ -5,7 +5,8 @@ use native.Mathlib.Omega.{arith}
 use borrow.Author.Needs.{needs}
 use borrow.Author.Tests.{not-true, not-false}
 use denote.Ref.{now}
-use Rattle.image_texts.specs.All.{all-below, all-none, all-done, all-false, all-more}
+use Rattle.image_texts.specs.All.{all-below}
+use Rattle.image_texts.proofs.All.{all-none, all-done, all-false, all-more}
 use Rattle.image_texts.specs.Rows.{new-row, rows-differ}
 use Rattle.image_texts.proofs.differ.all_new.Statement.{statement}
 use Rattle.image_texts.proofs.differ.all_new.Tie as tie

@@ -4,7 +4,8 @@ use mathlib.Core.Bool.{false}
 use native.Mathlib.Omega.{arith}
 use borrow.Author.Needs.{needs}
 use denote.Ref.{now}
-use Rattle.image_texts.specs.Hash.{Apart, apart-more}
+use Rattle.image_texts.specs.Hash.{Apart}
+use Rattle.image_texts.proofs.HashLaws.{apart-more}
 use Rattle.image_texts.proofs.differ.among.Statement.{statement}
 use Rattle.image_texts.proofs.differ.among.Tie as tie
 

@@ -2,7 +2,7 @@ use mathlib.Core.Path.{sym, ap₂, _∙_}
 use native.Mathlib.Omega.{arith}
 use borrow.Author.Needs.{needs}
 use Rattle.rules.specs.Words.{same}
-use Rattle.image_texts.specs.Hash.{hash-differ}
+use Rattle.image_texts.proofs.HashLaws.{hash-differ}
 use Rattle.image_texts.proofs.differ.clash.Statement.{statement}
 use Rattle.image_texts.proofs.differ.clash.Tie as tie
 

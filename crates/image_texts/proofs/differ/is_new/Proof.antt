@@ -3,9 +3,9 @@ use mathlib.Core.Bool.{not}
 use native.Mathlib.Omega.{arith}
 use borrow.Author.Needs.{needs}
 use borrow.Author.Tests.{not-true}
-use Rattle.image_texts.specs.All.{all-true}
+use Rattle.image_texts.proofs.All.{all-true}
 use Rattle.image_texts.specs.Rows.{new-row}
-use Rattle.image_texts.specs.Hash.{hash-differ}
+use Rattle.image_texts.proofs.HashLaws.{hash-differ}
 use Rattle.image_texts.proofs.differ.is_new.Statement.{statement}
 use Rattle.image_texts.proofs.differ.is_new.Tie as tie
 

@@ -6,7 +6,8 @@ use native.Mathlib.Omega.{arith}
 use borrow.Author.Needs.{needs}
 use denote.Ref.{now}
 use Rattle.rules.specs.Words.{same}
-use Rattle.image_texts.specs.All.{all-below, all-none, all-done, all-false, all-more}
+use Rattle.image_texts.specs.All.{all-below}
+use Rattle.image_texts.proofs.All.{all-none, all-done, all-false, all-more}
 use Rattle.image_texts.specs.Rows.{row-text, new-row}
 use Rattle.image_texts.proofs.differ.no_clash.Statement.{statement}
 use Rattle.image_texts.proofs.differ.no_clash.Tie as tie

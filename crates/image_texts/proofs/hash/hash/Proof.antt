@@ -3,7 +3,8 @@ use Prim.Native.Nat.{ℕ, _+_, _*_, _%_, _-_, _≤_}
 use native.Mathlib.Omega.{arith}
 use borrow.Author.Needs.{needs}
 use lib.ListN.{length, drop}
-use Rattle.image_texts.specs.Hash.{hash-from, hash-of, hash-step, hash-end}
+use Rattle.image_texts.specs.Hash.{hash-from, hash-of}
+use Rattle.image_texts.proofs.HashLaws.{hash-step, hash-end}
 use Rattle.image_texts.proofs.hash.hash.Statement.{statement}
 use Rattle.image_texts.proofs.hash.hash.Tie as tie
 

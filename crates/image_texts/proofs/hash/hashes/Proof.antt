@@ -5,7 +5,8 @@ use borrow.Author.Needs.{needs}
 use denote.Ref.{now}
 use lib.ListN.{length, length-set}
 use Rattle.image_texts.specs.Rows.{row-text}
-use Rattle.image_texts.specs.Hash.{hash-of, Hashes, hashes-more, Blank, blank-more, blank-all}
+use Rattle.image_texts.specs.Hash.{hash-of, Hashes, Blank}
+use Rattle.image_texts.proofs.HashLaws.{hashes-more, blank-more, blank-all}
 use Rattle.image_texts.proofs.hash.hashes.Statement.{statement}
 use Rattle.image_texts.proofs.hash.hashes.Tie as tie
 

@@ -7,7 +7,7 @@ use borrow.Author.Needs.{needs}
 use denote.Ref.{now}
 use Rattle.rules.specs.Words.{same}
 use Rattle.image_texts.specs.Rows.{row-text, qualified-text, first-from, find-row}
-use Rattle.image_texts.specs.Find.{first-start, first-hit, first-miss, first-none}
+use Rattle.image_texts.proofs.Find.{first-start, first-hit, first-miss, first-none}
 use Rattle.image_texts.proofs.qualified.find_qualified.Statement.{statement}
 use Rattle.image_texts.proofs.qualified.find_qualified.Tie as tie
 

@@ -7,7 +7,7 @@ use lib.ListN.{length, drop, length-drop}
 use lib.Seq.{length-take-le, take-all}
 use borrow.Author.Needs.{needs}
 use Rattle.rules.specs.Words.{same}
-use Rattle.image_texts.specs.Same.{joined-long, joined-dotless, joined-halves}
+use Rattle.image_texts.proofs.SameLaws.{joined-long, joined-dotless, joined-halves}
 use Rattle.image_texts.proofs.qualified.is_joined.Statement.{statement}
 use Rattle.image_texts.proofs.qualified.is_joined.Tie as tie
 

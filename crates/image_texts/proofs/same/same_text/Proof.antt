@@ -5,7 +5,7 @@ use borrow.Author.Needs.{needs}
 use denote.Ref.{now}
 use lib.ListN.{length, drop}
 use Rattle.rules.specs.Words.{same}
-use Rattle.image_texts.specs.Same.{same-long, same-next, same-apart, same-end}
+use Rattle.image_texts.proofs.SameLaws.{same-long, same-next, same-apart, same-end}
 use Rattle.image_texts.proofs.same.same_text.Statement.{statement}
 use Rattle.image_texts.proofs.same.same_text.Tie as tie
 

@@ -6,8 +6,8 @@ use denote.Ref.{now}
 use lib.ListN.{getD}
 use borrow.Author.Needs.{needs}
 use Rattle.image_layout.specs.Open.{pool-words}
-use Rattle.image_words.specs.Sections.{length-section}
-use Rattle.pool_types.specs.TypeAt.{shape-at}
+use Rattle.image_words.proofs.Sections.{length-section}
+use Rattle.pool_types.proofs.TypeAt.{shape-at}
 use Rattle.impl_functions.proofs.TargetRows.{not-named, named}
 use Rattle.impl_functions.proofs.message.target_message.Statement.{statement}
 use Rattle.impl_functions.proofs.message.target_message.Tie as tie

@@ -6,7 +6,7 @@ use mathlib.Core.List.{List}
 use native.Mathlib.Omega.{arith}
 use lib.ListN.{length, length-set}
 use Rattle.rules.specs.Syntax.{TraitFnDef}
-use Rattle.image_words.specs.Sections.{length-section}
+use Rattle.image_words.proofs.Sections.{length-section}
 use Rattle.impl_functions.specs.Functions.{All-asked-here}
 use Rattle.impl_functions.proofs.Walk.{started}
 use Rattle.impl_functions.proofs.NameTests.{Names, named, all-named}

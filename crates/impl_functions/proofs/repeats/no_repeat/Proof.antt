@@ -9,7 +9,7 @@ use lib.Seq.{length-take-le}
 use Rattle.rules.specs.Syntax.{ImplFnDef}
 use Rattle.rules.specs.Project.{no-repeat}
 use Rattle.answers.specs.Refusals.{refusal-of}
-use Rattle.pool_definitions.specs.Different.{take-more}
+use Rattle.pool_definitions.proofs.Different.{take-more}
 use Rattle.impl_functions.specs.Functions.{Placed}
 use Rattle.impl_functions.proofs.PlaceTable.{passed}
 use Rattle.impl_functions.proofs.NameTests.{Tested, seen-before, not-seen, none-seen}

@@ -3,7 +3,7 @@ use Prim.Native.Nat.{_-_}
 use mathlib.Core.Path.{_≡_, _∙_}
 use native.Mathlib.Omega.{arith}
 use lib.ListN.{length}
-use Rattle.image_words.specs.Sections.{length-section}
+use Rattle.image_words.proofs.Sections.{length-section}
 use Rattle.impl_rows.specs.Given.{Given}
 use Rattle.impl_rows.proofs.ViewRows.{Left, start, name-inside, goes, ended}
 use Rattle.impl_rows.proofs.view.view.Statement.{statement}

@@ -1,6 +1,6 @@
 -- `infer_result::inferred::ended` meets its contract. Assumes nothing.
 use borrow.Author.Needs.{needs}
-use Rattle.infer_result.specs.Steps.{says-same, says-other, says-free}
+use Rattle.infer_result.proofs.Steps.{says-same, says-other, says-free}
 use Rattle.infer_result.proofs.inferred.ended.Statement.{statement}
 use Rattle.infer_result.proofs.inferred.ended.Tie as tie
 

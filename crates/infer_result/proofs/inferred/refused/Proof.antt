@@ -1,6 +1,6 @@
 -- `infer_result::inferred::refused` meets its contract. Assumes nothing.
 use borrow.Author.Needs.{needs}
-use Rattle.infer_result.specs.Steps.{says-name}
+use Rattle.infer_result.proofs.Steps.{says-name}
 use Rattle.infer_result.proofs.inferred.refused.Statement.{statement}
 use Rattle.infer_result.proofs.inferred.refused.Tie as tie
 

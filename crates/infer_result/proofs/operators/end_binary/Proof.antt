@@ -1,8 +1,8 @@
 -- `infer_result::operators::end_binary` meets its contract. Assumes nothing.
 use borrow.Author.Needs.{needs}
 use mathlib.Core.Path.{sym, _∙_}
-use Rattle.infer_result.specs.Steps.{says-≡}
-use Rattle.infer_result.specs.Operators.{binary-takes, binary-refuses}
+use Rattle.infer_result.proofs.Steps.{says-≡}
+use Rattle.infer_result.proofs.OperatorsLaws.{binary-takes, binary-refuses}
 use Rattle.infer_result.proofs.operators.end_binary.Statement.{statement}
 use Rattle.infer_result.proofs.operators.end_binary.Tie as tie
 

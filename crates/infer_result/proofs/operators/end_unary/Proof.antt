@@ -6,8 +6,8 @@ use mathlib.Core.List.{_∷_}
 use Rattle.rules.specs.Syntax.{run}
 use Rattle.rules.specs.Refusal.{err, with-detail}
 use Rattle.infer_result.specs.Says.{Says}
-use Rattle.infer_result.specs.Steps.{says-≡}
-use Rattle.infer_result.specs.Operators.{unary-takes, unary-refuses}
+use Rattle.infer_result.proofs.Steps.{says-≡}
+use Rattle.infer_result.proofs.OperatorsLaws.{unary-takes, unary-refuses}
 use Rattle.infer_result.proofs.operators.end_unary.Statement.{statement}
 use Rattle.infer_result.proofs.operators.end_unary.Tie as tie
 

@@ -1,7 +1,7 @@
 -- `infer_result::operators::operand_allowed` meets its contract. Assumes nothing.
 use borrow.Author.Needs.{needs}
 use mathlib.Core.Path.{sym, _∙_}
-use Rattle.infer_result.specs.Operators.{allowed-equality, allowed-numeric}
+use Rattle.infer_result.proofs.OperatorsLaws.{allowed-equality, allowed-numeric}
 use Rattle.infer_result.proofs.operators.operand_allowed.Statement.{statement}
 use Rattle.infer_result.proofs.operators.operand_allowed.Tie as tie
 

@@ -6,7 +6,7 @@ use borrow.Author.Tests.{eq-eqb, ne-eqb}
 use Rattle.rules.specs.Types.{BOOL}
 use Rattle.codes.proofs.Codes.{primitive-in}
 use Rattle.type_words.proofs.Trees.{plain-holds}
-use Rattle.infer_result.specs.Operators.{allowed-signed, allowed-bool}
+use Rattle.infer_result.proofs.OperatorsLaws.{allowed-signed, allowed-bool}
 use Rattle.infer_result.proofs.operators.unary_allowed.Statement.{statement}
 use Rattle.infer_result.proofs.operators.unary_allowed.Tie as tie
 

@@ -4,7 +4,8 @@ use Prim.Native.Nat.{_-_, _≤_}
 use native.Mathlib.Omega.{arith}
 use borrow.Author.Tests.{not-true, not-false}
 use Rattle.rules.specs.ReadBodies.{block}
-use Rattle.image_words.specs.Verdict.{section-words, Left}
+use Rattle.image_words.specs.Verdict.{section-words}
+use Rattle.image_words.proofs.Verdict.{Left}
 use Rattle.pool_bodies.proofs.Blocks.{rest, block-stop, block-starts, block-turn, block-turn-stop, block-full, block-done}
 use Rattle.pool_bodies.proofs.bodies.check_block.Statement.{statement}
 use Rattle.pool_bodies.proofs.bodies.check_block.Tie as tie

@@ -5,14 +5,13 @@ use denote.Ref.{now}
 use Rattle.rules.specs.declared.kinds.ExprKind.{ExprKind}
 use Rattle.image_words.specs.declared.Checked.{Checked}
 use borrow.Author.Tests.{not-true, not-false}
-use Rattle.rules.specs.ReadBodies.{expr-node}
-use Rattle.image_words.specs.Says.{then, stop, last, after-stop, after-goes, after, after-two, given, failed, below-then}
-use Rattle.image_words.specs.Trees.{expr-is, tree-deep, tree-stop, tree-then}
-use Prim.Native.Nat.{_-_, _*_, _+_}
-use Rattle.rules.specs.ReadBodies.{exprs, expr-tree}
-use Rattle.image_words.specs.Verdict.{section-words, Says, Left}
-use Rattle.image_words.specs.Loops.{repeat-all, turn, turn-stop, turn-done}
-use Prim.Native.Nat.{ℕ, _<_}
+use Rattle.rules.specs.ReadBodies.{expr-node, exprs, expr-tree}
+use Rattle.image_words.proofs.Says.{then, stop, last, after-stop, after-goes, after, after-two, given, failed, below-then}
+use Rattle.image_words.proofs.Trees.{expr-is, tree-deep, tree-stop, tree-then}
+use Prim.Native.Nat.{_-_, _*_, _+_, ℕ, _<_}
+use Rattle.image_words.specs.Verdict.{section-words, Says}
+use Rattle.image_words.proofs.Verdict.{Left}
+use Rattle.image_words.proofs.Loops.{repeat-all, turn, turn-stop, turn-done}
 use borrow.Fn.Kinds.{In}
 use borrow.Fn.PlainCycle.{Measures, is, falls, and}
 use Rattle.pool_bodies.proofs.expressions.check_call.Reads as check-call

@@ -1,6 +1,6 @@
 -- `pool_bodies::expressions::check_maybe_expression` meets its contract: the answers follow the reader's steps.
 use borrow.Author.Tests.{not-true, not-false}
-use Rattle.image_words.specs.Says.{maybe-stop, maybe-none, maybe-some}
+use Rattle.image_words.proofs.Says.{maybe-stop, maybe-none, maybe-some}
 use borrow.Author.Needs.{needs}
 use Rattle.pool_bodies.proofs.expressions.check_maybe_expression.Statement.{statement}
 use Rattle.pool_bodies.proofs.expressions.check_maybe_expression.Tie as tie

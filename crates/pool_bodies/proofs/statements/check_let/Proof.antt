@@ -1,7 +1,7 @@
 -- `pool_bodies::statements::check_let` meets its contract: the answers follow the reader's steps.
 use borrow.Author.Tests.{not-true, not-false}
 use Rattle.rules.specs.ReadBodies.{statement-node}
-use Rattle.image_words.specs.Says.{then, stop, last}
+use Rattle.image_words.proofs.Says.{then, stop, last}
 use borrow.Author.Needs.{needs}
 use Rattle.pool_bodies.proofs.statements.check_let.Statement.{statement}
 use Rattle.pool_bodies.proofs.statements.check_let.Tie as tie

@@ -2,7 +2,7 @@
 use mathlib.Core.Path.{sym, _∙_}
 use borrow.Author.Tests.{not-true, not-false}
 use Rattle.rules.specs.ReadBodies.{statement-node}
-use Rattle.image_words.specs.Says.{then, stop, last, failed}
+use Rattle.image_words.proofs.Says.{then, stop, last, failed}
 use Rattle.pool_bodies.proofs.StatementLaws.{statement-stop, statement-then}
 use borrow.Author.Needs.{needs}
 use Rattle.pool_bodies.proofs.statements.check_statement.Statement.{statement}

@@ -1,7 +1,7 @@
 -- `pool_definitions::implementations::check_implementation` meets its contract: the answers follow the reader's steps.
 use borrow.Author.Tests.{not-true, not-false}
 use Rattle.rules.specs.ReadDefinitions.{implementation}
-use Rattle.image_words.specs.Says.{then, stop, last}
+use Rattle.image_words.proofs.Says.{then, stop, last}
 use borrow.Author.Needs.{needs}
 use Rattle.pool_definitions.proofs.implementations.check_implementation.Statement.{
   statement,

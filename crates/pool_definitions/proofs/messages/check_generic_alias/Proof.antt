@@ -1,7 +1,7 @@
 -- `pool_definitions::messages::check_generic_alias` meets its contract: the answers follow the reader's steps.
 use borrow.Author.Tests.{not-true, not-false}
 use Rattle.rules.specs.ReadDefinitions.{generic-alias}
-use Rattle.image_words.specs.Says.{then, stop, last}
+use Rattle.image_words.proofs.Says.{then, stop, last}
 use borrow.Author.Needs.{needs}
 use Rattle.pool_definitions.proofs.messages.check_generic_alias.Statement.{statement}
 use Rattle.pool_definitions.proofs.messages.check_generic_alias.Tie as tie

@@ -1,6 +1,6 @@
 -- `pool_definitions::messages::check_message` meets its contract: the answers follow the reader's steps.
 use Rattle.rules.specs.ReadDefinitions.{message}
-use Rattle.image_words.specs.Says.{last}
+use Rattle.image_words.proofs.Says.{last}
 use borrow.Author.Needs.{needs}
 use Rattle.pool_definitions.proofs.messages.check_message.Statement.{statement}
 use Rattle.pool_definitions.proofs.messages.check_message.Tie as tie

@@ -1,8 +1,8 @@
 -- `pool_definitions::traits::check_trait` meets its contract: the answers follow the reader's steps.
 use borrow.Author.Tests.{not-true, not-false}
 use Rattle.rules.specs.ReadDefinitions.{trait}
-use Rattle.image_words.specs.Says.{then, stop}
-use Rattle.image_words.specs.Loops.{made}
+use Rattle.image_words.proofs.Says.{then, stop}
+use Rattle.image_words.proofs.Loops.{made}
 use borrow.Author.Needs.{needs}
 use Rattle.pool_definitions.proofs.traits.check_trait.Statement.{statement}
 use Rattle.pool_definitions.proofs.traits.check_trait.Tie as tie

@@ -1,7 +1,7 @@
 -- `pool_definitions::traits::check_trait_function` meets its contract: the answers follow the reader's steps.
 use borrow.Author.Tests.{not-true, not-false}
 use Rattle.rules.specs.ReadDefinitions.{trait-function}
-use Rattle.image_words.specs.Says.{then, stop, last}
+use Rattle.image_words.proofs.Says.{then, stop, last}
 use borrow.Author.Needs.{needs}
 use Rattle.pool_definitions.proofs.traits.check_trait_function.Statement.{statement}
 use Rattle.pool_definitions.proofs.traits.check_trait_function.Tie as tie

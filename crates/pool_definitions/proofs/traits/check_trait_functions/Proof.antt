@@ -8,9 +8,11 @@ use lib.ListN.{length, take, length-set}
 use lib.Seq.{length-take-le}
 use borrow.Author.Tests.{not-true, not-false}
 use Rattle.rules.specs.Words.{all-different}
-use Rattle.image_words.specs.Verdict.{section-words, Left}
-use Rattle.image_words.specs.Says.{below-value}
-use Rattle.pool_definitions.specs.Different.{different-functions, different-none, different-more, take-more}
+use Rattle.image_words.specs.Verdict.{section-words}
+use Rattle.image_words.proofs.Verdict.{Left}
+use Rattle.image_words.proofs.Says.{below-value}
+use Rattle.pool_definitions.specs.Different.{different-functions}
+use Rattle.pool_definitions.proofs.Different.{different-none, different-more, take-more}
 use Rattle.pool_definitions.proofs.TraitLoop.{rest, functions-refused, functions-start, turn-refused, turn-twice, turn-more, functions-done}
 use Rattle.pool_definitions.proofs.traits.check_trait_functions.Statement.{statement}
 use Rattle.pool_definitions.proofs.traits.check_trait_functions.Tie as tie

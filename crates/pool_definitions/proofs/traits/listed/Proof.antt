@@ -7,7 +7,7 @@ use native.Mathlib.Omega.{arith}
 use lib.ListN.{length, take}
 use lib.Seq.{take-all}
 use Rattle.rules.specs.Words.{member}
-use Rattle.pool_definitions.specs.Different.{member-none, member-at, member-step}
+use Rattle.pool_definitions.proofs.Different.{member-none, member-at, member-step}
 use Rattle.pool_definitions.proofs.traits.listed.Statement.{statement}
 use Rattle.pool_definitions.proofs.traits.listed.Tie as tie
 

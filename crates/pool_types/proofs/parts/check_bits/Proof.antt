@@ -1,6 +1,6 @@
 -- `pool_types::parts::check_bits` meets its contract: the answers follow the reader's steps.
 use Rattle.rules.specs.ReadTypes.{bits-inline}
-use Rattle.image_words.specs.Says.{last}
+use Rattle.image_words.proofs.Says.{last}
 use borrow.Author.Needs.{needs}
 use Rattle.pool_types.proofs.parts.check_bits.Statement.{statement}
 use Rattle.pool_types.proofs.parts.check_bits.Tie as tie

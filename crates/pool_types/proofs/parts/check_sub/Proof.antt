@@ -1,7 +1,7 @@
 -- `pool_types::parts::check_sub` meets its contract: the answers follow the reader's steps.
 use borrow.Author.Tests.{not-true, not-false}
 use Rattle.rules.specs.ReadTypes.{sub-byte}
-use Rattle.image_words.specs.Says.{then, stop, word-then, rule-then, rule-stop, given}
+use Rattle.image_words.proofs.Says.{then, stop, word-then, rule-then, rule-stop, given}
 use borrow.Author.Needs.{needs}
 use Rattle.pool_types.proofs.parts.check_sub.Statement.{statement}
 use Rattle.pool_types.proofs.parts.check_sub.Tie as tie

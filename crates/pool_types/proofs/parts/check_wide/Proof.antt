@@ -1,7 +1,7 @@
 -- `pool_types::parts::check_wide` meets its contract: the answers follow the reader's steps.
 use borrow.Author.Tests.{not-true, not-false}
 use Rattle.rules.specs.ReadTypes.{wide}
-use Rattle.image_words.specs.Says.{then, stop, last}
+use Rattle.image_words.proofs.Says.{then, stop, last}
 use borrow.Author.Needs.{needs}
 use Rattle.pool_types.proofs.parts.check_wide.Statement.{statement}
 use Rattle.pool_types.proofs.parts.check_wide.Tie as tie

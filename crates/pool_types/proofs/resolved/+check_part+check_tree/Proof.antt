@@ -1,16 +1,15 @@
 -- `pool_types::resolved::check_part`, `pool_types::resolved::check_tree` meet their contracts: each arm is a step of the reader behind its code; the level falls.
 use borrow.Author.Needs.{needs}
 use mathlib.Core.Path.{_≡_, sym, _∙_}
-use Prim.Native.Nat.{_-_, _+_, _*_}
+use Prim.Native.Nat.{_-_, _+_, _*_, ℕ, _<_}
 use denote.Ref.{now}
 use Rattle.rules.specs.declared.kinds.TypeKind.{TypeKind}
 use Rattle.image_words.specs.declared.Checked.{Checked}
 use Rattle.image_words.specs.Verdict.{section-words, Says}
 use borrow.Author.Tests.{not-true, not-false}
-use Rattle.image_words.specs.Says.{last, after-stop, after-goes, after, given, failed}
+use Rattle.image_words.proofs.Says.{last, after-stop, after-goes, after, given, failed}
 use Rattle.rules.specs.ReadTypes.{type-node, type-tree}
-use Rattle.image_words.specs.Trees.{type-is, tree-deep, tree-stop, tree-then}
-use Prim.Native.Nat.{ℕ, _<_}
+use Rattle.image_words.proofs.Trees.{type-is, tree-deep, tree-stop, tree-then}
 use borrow.Fn.Kinds.{In}
 use borrow.Fn.PlainCycle.{Measures, is, falls, and}
 use Rattle.pool_types.proofs.resolved.check_part.Reads as check-part

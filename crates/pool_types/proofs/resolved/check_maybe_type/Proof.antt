@@ -1,6 +1,6 @@
 -- `pool_types::resolved::check_maybe_type` meets its contract: the answers follow the reader's steps.
 use borrow.Author.Tests.{not-true, not-false}
-use Rattle.image_words.specs.Says.{maybe-stop, maybe-none, maybe-some}
+use Rattle.image_words.proofs.Says.{maybe-stop, maybe-none, maybe-some}
 use borrow.Author.Needs.{needs}
 use Rattle.pool_types.proofs.resolved.check_maybe_type.Statement.{statement}
 use Rattle.pool_types.proofs.resolved.check_maybe_type.Tie as tie

@@ -2,7 +2,7 @@
 use native.Mathlib.Omega.{arith}
 use borrow.Author.Tests.{not-true, not-false}
 use Rattle.rules.specs.ReadTypes.{resolved-type}
-use Rattle.image_words.specs.Says.{sized-stop, sized-in, sized-over}
+use Rattle.image_words.proofs.Says.{sized-stop, sized-in, sized-over}
 use borrow.Author.Needs.{needs}
 use Rattle.pool_types.proofs.resolved.check_type.Statement.{statement}
 use Rattle.pool_types.proofs.resolved.check_type.Tie as tie

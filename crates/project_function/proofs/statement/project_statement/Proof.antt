@@ -4,7 +4,7 @@ use mathlib.Core.Path.{refl, sym, ap, _∙_}
 use Rattle.rules.specs.Refusal.{in-function}
 use Rattle.answers.specs.Refusals.{refusal-of}
 use Rattle.project_let.specs.Agree.{Steps}
-use Rattle.project_function.specs.Passes.{steps-assign, by-let, by-assign, by-other}
+use Rattle.project_function.proofs.Passes.{steps-assign, by-let, by-assign, by-other}
 use Rattle.project_function.proofs.statement.project_statement.Statement.{statement}
 use Rattle.project_function.proofs.statement.project_statement.Tie as tie
 

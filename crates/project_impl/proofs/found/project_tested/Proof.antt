@@ -5,8 +5,8 @@ use native.Mathlib.Omega.{arith}
 use borrow.Author.Tests.{not-true, not-false}
 use lib.ListN.{length}
 use lib.Seq.{length-take-le}
-use Rattle.project_outcome.specs.Coming.{comes-same, comes-err}
-use Rattle.project_outcome.specs.Passing.{not-passed, was-passed}
+use Rattle.project_outcome.proofs.Coming.{comes-same, comes-err}
+use Rattle.project_outcome.proofs.Passing.{not-passed, was-passed}
 use Rattle.project_impl.proofs.WholeLaws.{has-repeat, has-stranger, all-tested}
 use Rattle.project_impl.proofs.WantedParts.{few, given, asked-at, all, against-names, start-small, types-small, stand, few-places}
 use Rattle.project_impl.proofs.found.project_tested.Statement.{statement}

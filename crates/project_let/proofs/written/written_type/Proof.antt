@@ -2,8 +2,8 @@
 use borrow.Author.Needs.{needs}
 use native.Mathlib.Omega.{arith}
 use mathlib.Core.Path.{sym, _∙_}
-use Rattle.image_words.specs.Sections.{length-section}
-use Rattle.project_let.specs.Wanted.{wanted-none, wanted-some}
+use Rattle.image_words.proofs.Sections.{length-section}
+use Rattle.project_let.proofs.WantedLaws.{wanted-none, wanted-some}
 use Rattle.project_let.proofs.written.written_type.Statement.{statement}
 use Rattle.project_let.proofs.written.written_type.Tie as tie
 

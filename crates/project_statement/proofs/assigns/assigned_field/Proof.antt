@@ -2,8 +2,8 @@
 use borrow.Author.Needs.{needs}
 use native.Mathlib.Omega.{arith}
 use mathlib.Core.Path.{refl, sym, _∙_}
-use Rattle.image_words.specs.Sections.{length-section}
-use Rattle.project_statement.specs.Targets.{at-none, at-other, at-self}
+use Rattle.image_words.proofs.Sections.{length-section}
+use Rattle.project_statement.proofs.Targets.{at-none, at-other, at-self}
 use Rattle.project_statement.proofs.assigns.assigned_field.Statement.{statement}
 use Rattle.project_statement.proofs.assigns.assigned_field.Tie as tie
 

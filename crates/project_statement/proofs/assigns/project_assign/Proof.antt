@@ -6,9 +6,9 @@ use native.Mathlib.Omega.{arith}
 use mathlib.Core.Path.{ap, _∙_}
 use Rattle.rules.specs.Refusal.{in-function, with-name}
 use Rattle.answers.specs.Refusals.{refusal-of}
-use Rattle.image_words.specs.Sections.{length-section}
-use Rattle.write_words.specs.Written.{written-then}
-use Rattle.project_statement.specs.Assigns.{no-field, unknown, assigned, target-stood, value-stood}
+use Rattle.image_words.proofs.Sections.{length-section}
+use Rattle.write_words.proofs.Written.{written-then}
+use Rattle.project_statement.proofs.AssignsLaws.{no-field, unknown, assigned, target-stood, value-stood}
 use Rattle.project_statement.proofs.assigns.project_assign.Statement.{statement}
 use Rattle.project_statement.proofs.assigns.project_assign.Tie as tie
 

@@ -1,8 +1,8 @@
 -- `project_statement::returns::project_return` meets its contract. Assumes nothing.
 use borrow.Author.Needs.{needs}
 use native.Mathlib.Omega.{arith}
-use Rattle.image_words.specs.Sections.{length-section}
-use Rattle.project_statement.specs.Returns.{no-value, some-value}
+use Rattle.image_words.proofs.Sections.{length-section}
+use Rattle.project_statement.proofs.ReturnsLaws.{no-value, some-value}
 use Rattle.project_statement.proofs.returns.project_return.Statement.{statement}
 use Rattle.project_statement.proofs.returns.project_return.Tie as tie
 

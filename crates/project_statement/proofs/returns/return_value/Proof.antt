@@ -7,8 +7,8 @@ use mathlib.Core.Path.{ap, _∙_}
 use mathlib.Core.List.{[], _∷_}
 use Rattle.rules.specs.Refusal.{with-detail, in-function}
 use Rattle.answers.specs.Refusals.{refusal-of}
-use Rattle.write_words.specs.Written.{written-then}
-use Rattle.project_statement.specs.Returns.{value-unwanted, value-refused, value-early, value-last}
+use Rattle.write_words.proofs.Written.{written-then}
+use Rattle.project_statement.proofs.ReturnsLaws.{value-unwanted, value-refused, value-early, value-last}
 use Rattle.project_statement.proofs.returns.return_value.Statement.{statement}
 use Rattle.project_statement.proofs.returns.return_value.Tie as tie
 

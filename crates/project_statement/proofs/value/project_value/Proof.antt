@@ -1,6 +1,6 @@
 -- `project_statement::value::project_value` meets its contract. Assumes nothing.
 use borrow.Author.Needs.{needs}
-use Rattle.project_statement.specs.Values.{value-refused, value-written}
+use Rattle.project_statement.proofs.Values.{value-refused, value-written}
 use Rattle.project_statement.proofs.value.project_value.Statement.{statement}
 use Rattle.project_statement.proofs.value.project_value.Tie as tie
 

@@ -4,7 +4,7 @@ use native.Mathlib.Omega.{arith}
 use denote.Ref.{now}
 use lib.ListN.{length}
 use borrow.Author.Needs.{needs}
-use Rattle.replay_cases.specs.Filled.{Left, too-short, apart-before, apart-behind, more-before, more-behind, all-met}
+use Rattle.replay_cases.proofs.Filled.{Left, too-short, apart-before, apart-behind, more-before, more-behind, all-met}
 use Rattle.replay_cases.proofs.buffers.holds.Statement.{statement}
 use Rattle.replay_cases.proofs.buffers.holds.Tie as tie
 

@@ -1,6 +1,6 @@
 use denote.Ref.{now}
 use borrow.Author.Needs.{needs}
-use Rattle.replay_cases.specs.Cases.{ends-inside, ends-behind}
+use Rattle.replay_cases.proofs.Cases.{ends-inside, ends-behind}
 use Rattle.replay_cases.proofs.case.read.Statement.{statement}
 use Rattle.replay_cases.proofs.case.read.Tie as tie
 

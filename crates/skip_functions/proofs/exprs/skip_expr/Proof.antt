@@ -1,6 +1,6 @@
 -- `skip_functions::exprs::skip_expr` meets its contract. Assumes nothing.
 use borrow.Author.Needs.{needs}
-use Rattle.skip_types.specs.Pending.{one-left}
+use Rattle.skip_types.proofs.Pending.{one-left}
 use Rattle.skip_functions.proofs.exprs.skip_expr.Statement.{statement}
 use Rattle.skip_functions.proofs.exprs.skip_expr.Tie as tie
 

@@ -5,10 +5,11 @@ use mathlib.Core.Path.{ap, _∙_}
 use native.Mathlib.Omega.{arith}
 use Rattle.rules.specs.Kinds.{expr-kind}
 use Rattle.image_words.specs.Verdict.{section-words}
-use Rattle.image_words.specs.Sections.{length-section}
+use Rattle.image_words.proofs.Sections.{length-section}
 use Rattle.pool_bodies.specs.ExprAt.{Expr-at}
-use Rattle.skip_types.specs.Pending.{Pending, ended, of-first, turned, pending-fits}
-use Rattle.skip_functions.specs.ExprNodes.{expr-parts, expr-inside}
+use Rattle.skip_types.specs.Pending.{Pending}
+use Rattle.skip_types.proofs.Pending.{ended, of-first, turned, pending-fits}
+use Rattle.skip_functions.proofs.ExprNodes.{expr-parts, expr-inside}
 use Rattle.skip_functions.proofs.exprs.skip_exprs.Statement.{statement}
 use Rattle.skip_functions.proofs.exprs.skip_exprs.Tie as tie
 

@@ -1,9 +1,9 @@
 -- `skip_functions::functions::skip_function` meets its contract. Assumes nothing.
 use borrow.Author.Needs.{needs}
 use native.Mathlib.Omega.{arith}
-use Rattle.image_words.specs.Sections.{length-section}
-use Rattle.skip_functions.specs.Statements.{body-from}
-use Rattle.skip_functions.specs.Functions.{maybe-from}
+use Rattle.image_words.proofs.Sections.{length-section}
+use Rattle.skip_functions.proofs.StatementsLaws.{body-from}
+use Rattle.skip_functions.proofs.FunctionsLaws.{maybe-from}
 use Rattle.skip_functions.proofs.functions.skip_function.Statement.{statement}
 use Rattle.skip_functions.proofs.functions.skip_function.Tie as tie
 

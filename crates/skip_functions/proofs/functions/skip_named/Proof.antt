@@ -4,10 +4,11 @@ use Prim.Native.Nat.{ℕ}
 use mathlib.Core.Path.{sym}
 use native.Mathlib.Omega.{arith}
 use Rattle.image_words.specs.Verdict.{section-words}
-use Rattle.image_words.specs.Sections.{length-section}
+use Rattle.image_words.proofs.Sections.{length-section}
 use Rattle.pool_types.specs.ParamAt.{Param-at}
 use Rattle.pool_type_exprs.specs.TypeExprAt.{Type-expr-at}
-use Rattle.skip_types.specs.Pending.{Pending, none-left, ended, of-first, turned}
+use Rattle.skip_types.specs.Pending.{Pending}
+use Rattle.skip_types.proofs.Pending.{none-left, ended, of-first, turned}
 use Rattle.skip_functions.proofs.functions.skip_named.Statement.{statement}
 use Rattle.skip_functions.proofs.functions.skip_named.Tie as tie
 

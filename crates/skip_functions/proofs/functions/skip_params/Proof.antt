@@ -1,8 +1,8 @@
 -- `skip_functions::functions::skip_params` meets its contract. Assumes nothing.
 use borrow.Author.Needs.{needs}
 use native.Mathlib.Omega.{arith}
-use Rattle.image_words.specs.Sections.{length-section}
-use Rattle.skip_functions.specs.Functions.{resolved-left, expressions-left}
+use Rattle.image_words.proofs.Sections.{length-section}
+use Rattle.skip_functions.proofs.FunctionsLaws.{resolved-left, expressions-left}
 use Rattle.skip_functions.proofs.functions.skip_params.Statement.{statement}
 use Rattle.skip_functions.proofs.functions.skip_params.Tie as tie
 

@@ -1,8 +1,8 @@
 -- `skip_functions::functions::skip_trait_function` meets its contract. Assumes nothing.
 use borrow.Author.Needs.{needs}
 use native.Mathlib.Omega.{arith}
-use Rattle.image_words.specs.Sections.{length-section}
-use Rattle.skip_functions.specs.Functions.{return-from}
+use Rattle.image_words.proofs.Sections.{length-section}
+use Rattle.skip_functions.proofs.FunctionsLaws.{return-from}
 use Rattle.skip_functions.proofs.functions.skip_trait_function.Statement.{statement}
 use Rattle.skip_functions.proofs.functions.skip_trait_function.Tie as tie
 

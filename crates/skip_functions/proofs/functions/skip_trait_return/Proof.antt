@@ -1,8 +1,8 @@
 -- `skip_functions::functions::skip_trait_return` meets its contract. Assumes nothing.
 use borrow.Author.Needs.{needs}
 use native.Mathlib.Omega.{arith}
-use Rattle.image_words.specs.Sections.{length-section}
-use Rattle.skip_functions.specs.Functions.{return-inside, return-none, return-some}
+use Rattle.image_words.proofs.Sections.{length-section}
+use Rattle.skip_functions.proofs.FunctionsLaws.{return-inside, return-none, return-some}
 use Rattle.skip_functions.proofs.functions.skip_trait_return.Statement.{statement}
 use Rattle.skip_functions.proofs.functions.skip_trait_return.Tie as tie
 

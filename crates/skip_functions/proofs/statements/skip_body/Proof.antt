@@ -1,8 +1,8 @@
 -- `skip_functions::statements::skip_body` meets its contract. Assumes nothing.
 use borrow.Author.Needs.{needs}
 use native.Mathlib.Omega.{arith}
-use Rattle.image_words.specs.Sections.{length-section}
-use Rattle.skip_functions.specs.Statements.{body-inside, body-none, body-some}
+use Rattle.image_words.proofs.Sections.{length-section}
+use Rattle.skip_functions.proofs.StatementsLaws.{body-inside, body-none, body-some}
 use Rattle.skip_functions.proofs.statements.skip_body.Statement.{statement}
 use Rattle.skip_functions.proofs.statements.skip_body.Tie as tie
 

@@ -1,10 +1,10 @@
 -- `skip_functions::statements::skip_statement` meets its contract: an arm for each kind. Assumes nothing.
 use borrow.Author.Needs.{needs}
 use native.Mathlib.Omega.{arith}
-use Rattle.image_words.specs.Sections.{length-section}
-use Rattle.skip_types.specs.Pending.{two-left}
-use Rattle.skip_functions.specs.ExprNodes.{expr-from}
-use Rattle.skip_functions.specs.Statements.{statement-node, by-code}
+use Rattle.image_words.proofs.Sections.{length-section}
+use Rattle.skip_types.proofs.Pending.{two-left}
+use Rattle.skip_functions.proofs.ExprNodes.{expr-from}
+use Rattle.skip_functions.proofs.StatementsLaws.{statement-node, by-code}
 use Rattle.skip_functions.proofs.statements.skip_statement.Statement.{statement}
 use Rattle.skip_functions.proofs.statements.skip_statement.Tie as tie
 

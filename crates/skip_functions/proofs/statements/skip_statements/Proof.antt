@@ -5,7 +5,8 @@ use mathlib.Core.Path.{sym}
 use native.Mathlib.Omega.{arith}
 use Rattle.image_words.specs.Verdict.{section-words}
 use Rattle.pool_bodies.specs.StatementAt.{Statement-at}
-use Rattle.skip_types.specs.Pending.{Pending, none-left, ended, turned}
+use Rattle.skip_types.specs.Pending.{Pending}
+use Rattle.skip_types.proofs.Pending.{none-left, ended, turned}
 use Rattle.skip_functions.proofs.statements.skip_statements.Statement.{statement}
 use Rattle.skip_functions.proofs.statements.skip_statements.Tie as tie
 

@@ -5,7 +5,7 @@ use denote.Ref.{now}
 use borrow.Author.Needs.{needs}
 use Rattle.image_layout.specs.Open.{pool-words}
 use Rattle.subst_names.specs.Aliases.{IsAlias}
-use Rattle.subst_names.specs.Generic.{alias-at, generic-here, none-here}
+use Rattle.subst_names.proofs.GenericLaws.{alias-at, generic-here, none-here}
 use Rattle.subst_names.proofs.generic.lookup_alias.Statement.{statement}
 use Rattle.subst_names.proofs.generic.lookup_alias.Tie as tie
 

@@ -4,7 +4,7 @@ use denote.Ref.{now}
 use borrow.Author.Needs.{needs}
 use Rattle.image_layout.specs.Open.{pool-words}
 use Rattle.subst_names.specs.Aliases.{IsAlias}
-use Rattle.subst_names.specs.Generic.{not-one, is-one}
+use Rattle.subst_names.proofs.GenericLaws.{not-one, is-one}
 use Rattle.subst_names.proofs.generic.one_parameter.Statement.{statement}
 use Rattle.subst_names.proofs.generic.one_parameter.Tie as tie
 

@@ -8,7 +8,7 @@ use Rattle.rules.specs.Words.{NONE}
 use Rattle.rules.specs.Options.{or}
 use Rattle.rules.specs.Substitute.{number}
 use Rattle.image_layout.specs.Open.{pool-words}
-use Rattle.subst_names.specs.Codes.{named-type, other-type, no-alias, some-alias}
+use Rattle.subst_names.proofs.Codes.{named-type, other-type, no-alias, some-alias}
 use Rattle.subst_names.proofs.names.alias_number.Statement.{statement}
 use Rattle.subst_names.proofs.names.alias_number.Tie as tie
 

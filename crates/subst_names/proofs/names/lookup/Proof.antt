@@ -7,7 +7,7 @@ use borrow.Author.Needs.{needs}
 use Rattle.rules.specs.Words.{NONE}
 use Rattle.rules.specs.Options.{or}
 use Rattle.image_layout.specs.Open.{AliasStands, pool-words}
-use Rattle.subst_names.specs.Names.{row, defined, named-alias}
+use Rattle.subst_names.proofs.NamesLaws.{row, defined, named-alias}
 use Rattle.subst_names.proofs.names.lookup.Statement.{statement}
 use Rattle.subst_names.proofs.names.lookup.Tie as tie
 

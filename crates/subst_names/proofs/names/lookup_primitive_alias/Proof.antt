@@ -13,8 +13,8 @@ use Rattle.type_words.specs.declared.HeldType.{HeldType}
 use Rattle.type_words.specs.Holds.{Holds, MaybeHolds}
 use Rattle.codes.proofs.Codes.{primitive-in}
 use Rattle.type_words.proofs.Trees.{plain-holds}
-use Rattle.subst_names.specs.Codes.{primitive-type, no-primitive, no-alias, some-alias}
-use Rattle.subst_names.specs.Names.{row, primitive-alias}
+use Rattle.subst_names.proofs.Codes.{primitive-type, no-primitive, no-alias, some-alias}
+use Rattle.subst_names.proofs.NamesLaws.{row, primitive-alias}
 use Rattle.subst_names.proofs.names.lookup_primitive_alias.Statement.{statement}
 use Rattle.subst_names.proofs.names.lookup_primitive_alias.Tie as tie
 

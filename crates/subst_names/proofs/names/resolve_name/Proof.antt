@@ -4,7 +4,7 @@ use borrow.Author.Needs.{needs}
 use Rattle.rules.specs.Substitute.{find-param, lookup-primitive-alias}
 use Rattle.type_words.specs.Holds.{Holds}
 use Rattle.type_words.proofs.Trees.{named-holds}
-use Rattle.subst_names.specs.Names.{maybe-some, maybe-none, by-param, by-primitive, by-lookup}
+use Rattle.subst_names.proofs.NamesLaws.{maybe-some, maybe-none, by-param, by-primitive, by-lookup}
 use Rattle.subst_names.proofs.names.resolve_name.Statement.{statement}
 use Rattle.subst_names.proofs.names.resolve_name.Tie as tie
 

@@ -6,8 +6,8 @@ use borrow.Author.Needs.{needs}
 use Rattle.type_words.specs.Holds.{Holds}
 use Rattle.type_words.proofs.Trees.{named-holds}
 use Rattle.image_texts.specs.Rows.{qualified-text}
-use Rattle.image_texts.specs.Names.{find-below}
-use Rattle.subst_names.specs.Names.{qualified-at, qualified-none, qualified-some}
+use Rattle.image_texts.proofs.Names.{find-below}
+use Rattle.subst_names.proofs.NamesLaws.{qualified-at, qualified-none, qualified-some}
 use Rattle.subst_names.proofs.names.resolve_qualified.Statement.{statement}
 use Rattle.subst_names.proofs.names.resolve_qualified.Tie as tie
 

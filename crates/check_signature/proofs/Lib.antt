@@ -1,0 +1,4 @@
+pub mod Ends
+pub mod Details
+pub mod ParamsLaws
+pub mod Whole

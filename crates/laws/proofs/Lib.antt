@@ -1,0 +1,14 @@
+pub mod Each
+pub mod Same
+pub mod TypeExprs
+pub mod Counts
+pub mod Visits
+pub mod Depth
+pub mod Widths
+pub mod Expressions
+pub mod Statements
+pub mod Definitions
+pub mod Kept
+pub mod Substitution
+pub mod Schema
+pub mod MoreNames

@@ -1,0 +1,3 @@
+pub mod Passes
+pub mod Blocks
+pub mod Whole

@@ -1,0 +1,4 @@
+pub mod Targets
+pub mod Values
+pub mod ReturnsLaws
+pub mod AssignsLaws

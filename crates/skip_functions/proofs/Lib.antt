@@ -1,0 +1,3 @@
+pub mod ExprNodes
+pub mod StatementsLaws
+pub mod FunctionsLaws
