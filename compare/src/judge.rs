@@ -23,6 +23,19 @@ pub enum By {
     OtherTexts,
 }
 
+impl By {
+    pub const ALL: [By; 4] = [By::Rust, By::Loader, By::Count, By::OtherTexts];
+
+    pub fn words(self) -> &'static str {
+        match self {
+            By::Rust => "by the Rust and the second reading",
+            By::Loader => "2 or 3, by the loader and the second reading",
+            By::Count => "8, by a count on the Rust's trees and the second reading",
+            By::OtherTexts => "with texts that are not ASCII, by the second reading alone",
+        }
+    }
+}
+
 pub struct Judged {
     pub whole: Whole,
     pub by: By,

@@ -1,11 +1,13 @@
 //! The original Rust and the proved library beside a second reading of document 01, over seeded images.
 
+mod asked;
 mod buffers;
 mod case;
 mod cases;
 mod child;
 mod gen;
 mod judge;
+mod labels;
 mod library;
 mod options;
 mod readable;
@@ -17,8 +19,10 @@ mod table;
 mod text;
 mod worst;
 
+use std::io::{ErrorKind, Write};
 use std::path::Path;
 use std::process::ExitCode;
+use std::rc::Rc;
 use std::time::Instant;
 
 use case::Case;
@@ -50,7 +54,12 @@ usage: compare/run SUBCOMMAND [OPTION ..]
   text    --from FILE              the same for stored cases
   vectors [--seed S] --to FOLDER   writes the stored cases there: cases.bin, and a label for each in labels.txt
   check   --from FILE              asks both sides about the stored cases
-  show    --from FILE --case N     prints one stored case
+  show    LABEL [--from FILE]      prints the stored cases of a label, where a * stands for any characters
+  show    --case N [--from FILE]   prints one stored case by its place
+  labels  [PATTERN] [--from FILE]  the stored cases' places, calls and labels; FILE has its labels.txt beside it
+  ask     --image FILE [--row N] [--as projone|sigone]
+                                   both calls on an image, for its lowest implementation where no row is given; or
+                                   just the lines that a program prints
   build, test                      only builds or tests";
 
 const WITHOUT_LIBRARY: &str = "this build is without the library; compare/run builds it";
@@ -102,7 +111,9 @@ fn command(words: &[String]) -> Result<(), Failure> {
         "text" => lines(&options(&["seed", "cases", "max-image", "large", "from"])?),
         "vectors" => vectors(&options(&["seed", "to"])?),
         "check" => check(&options(&["from"])?),
-        "show" => show(&options(&["from", "case"])?),
+        "show" => show(Options::behind(rest, &["from", "case"])?),
+        "labels" => list(Options::behind(rest, &["from"])?),
+        "ask" => ask(&options(&["image", "row", "as"])?),
         speed::COUNT_HERE if rest.len() == 1 => count_here(&rest[0]),
         speed::ASK_HERE if rest.len() == 3 => Ok(speed::ask_here(child::call(&rest[0]), &rest[1], &rest[2])?),
         child::SUBCOMMAND if rest.len() == 2 => Ok(child::answer(&rest[0], &rest[1])?),
@@ -275,13 +286,72 @@ fn check(options: &Options) -> Result<(), Failure> {
     }
 }
 
-fn show(options: &Options) -> Result<(), Failure> {
-    let path = options.text("from").ok_or("show wants --from FILE".to_string())?;
-    let place: usize = options.number("case", 0)?;
+fn show((label, options): (Option<&str>, Options)) -> Result<(), Failure> {
+    let path = options.text("from").unwrap_or(labels::STORED);
     let cases = read_cases(path)?;
-    let (case, whole) = cases.get(place).ok_or(format!("there are {} cases, from 0", cases.len()))?;
-    print!("{}", text::readable(case, whole));
-    Ok(())
+    let text = match (label, options.text("case")) {
+        (Some(label), None) => {
+            let labels = labels::beside(path, cases.len())?;
+            let one = |place: usize| {
+                let (case, whole) = &cases[place];
+                format!("case {place}, {}\n{}", labels[place], text::readable(case, whole))
+            };
+            labels::find(label, &labels)?.into_iter().map(one).collect::<Vec<String>>().join("\n")
+        }
+        (None, Some(_)) => {
+            let place: usize = options.number("case", 0)?;
+            let (case, whole) = cases.get(place).ok_or(format!("there are {} cases, from 0", cases.len()))?;
+            text::readable(case, whole)
+        }
+        _ => return Err(Failure::Bad("show wants a label or --case N; `compare/run labels` lists the labels".into())),
+    };
+    say(&text)
+}
+
+fn list((pattern, options): (Option<&str>, Options)) -> Result<(), Failure> {
+    let path = options.text("from").unwrap_or(labels::STORED);
+    let cases = read_cases(path)?;
+    let labels = labels::beside(path, cases.len())?;
+    let places = labels::find(pattern.unwrap_or("*"), &labels)?.into_iter();
+    say(&places.map(|at| format!("{at} {} {}\n", child::letter(cases[at].0.call), labels[at])).collect::<String>())
+}
+
+fn ask(options: &Options) -> Result<(), Failure> {
+    let path = options.text("image").ok_or("ask wants --image FILE".to_string())?;
+    let image: Rc<[u8]> = std::fs::read(path).map_err(|error| format!("cannot read {path}: {error}"))?.into();
+    let row = options.text("row").map(|_| options.number("row", 0)).transpose()?;
+    let program = options.text("as");
+    let calls = [Call::ProjectImpl, Call::ExpectedSignatures].into_iter();
+    let calls: Vec<Call> = calls.filter(|call| program.is_none_or(|name| name == asked::program(*call))).collect();
+    if calls.is_empty() {
+        return Err(Failure::Bad("--as wants projone or sigone".into()));
+    }
+    let (mut judge, mut text) = (Judge::default(), String::new());
+    if program.is_none() {
+        text.push_str(&text::image(&image));
+    }
+    for call in calls {
+        let case = asked::case(call, &image, row);
+        let judged = judge.judge(&case).map_err(Failure::Differs)?;
+        text.push_str(&match program {
+            Some(_) => asked::lines(&judged.whole),
+            None => {
+                let (asked, answered) = (text::asked(&case), text::answered(&case, &judged.whole));
+                format!("\n{asked}{answered}judged {}\n", judged.by.words())
+            }
+        });
+    }
+    say(&text)
+}
+
+/// Prints; a reader that goes away early has had enough.
+fn say(text: &str) -> Result<(), Failure> {
+    match std::io::stdout().write_all(text.as_bytes()) {
+        Err(error) if error.kind() != ErrorKind::BrokenPipe => {
+            Err(Failure::Bad(format!("cannot write to standard output: {error}")))
+        }
+        _ => Ok(()),
+    }
 }
 
 fn read_cases(path: &str) -> Result<Vec<(case::Case, case::Whole)>, String> {

@@ -6,6 +6,14 @@ use std::str::FromStr;
 pub struct Options(BTreeMap<String, String>);
 
 impl Options {
+    /// Options behind one word of another kind, such as a label, where there is one.
+    pub fn behind<'a>(words: &'a [String], known: &[&str]) -> Result<(Option<&'a str>, Self), String> {
+        match words.split_first() {
+            Some((word, rest)) if !word.starts_with("--") => Ok((Some(word), Self::parse(rest, known)?)),
+            _ => Ok((None, Self::parse(words, known)?)),
+        }
+    }
+
     pub fn parse(words: &[String], known: &[&str]) -> Result<Self, String> {
         let mut options = BTreeMap::new();
         for pair in words.chunks(2) {
@@ -49,6 +57,22 @@ mod tests {
             [&["--seed"][..], &["--seed", "x"], &["--sead", "5"], &["seed", "5"], &["--seed", "1", "--seed", "1"]]
         {
             assert!(parse(bad).is_err());
+        }
+    }
+
+    #[test]
+    fn one_word_may_stand_before_options() {
+        let behind = |words: &[&str]| {
+            let words: Vec<String> = words.iter().map(|word| word.to_string()).collect();
+            let (word, options) = Options::behind(&words, &["case"])?;
+            Ok::<_, String>((word.map(str::to_string), options.number("case", 7u64)?))
+        };
+        assert_eq!(behind(&[]), Ok((None, 7)));
+        assert_eq!(behind(&["--case", "5"]), Ok((None, 5)));
+        assert_eq!(behind(&["row-past"]), Ok((Some("row-past".into()), 7)));
+        assert_eq!(behind(&["row-past", "--case", "5"]), Ok((Some("row-past".into()), 5)));
+        for bad in [&["row-past", "row-none"][..], &["--case", "5", "row-past"], &["row-past", "--case"]] {
+            assert!(behind(bad).is_err());
         }
     }
 }

@@ -64,13 +64,8 @@ impl fmt::Display for Table {
             let counts: Vec<String> = kinds.map(|((_, kind), count)| format!("{kind}: {count}")).collect();
             writeln!(f, "{number} by {what}: {}", counts.join(", "))?;
         }
-        for (by, words) in [
-            (By::Rust, "by the Rust and the second reading"),
-            (By::Loader, "2 or 3, by the loader and the second reading"),
-            (By::Count, "8, by a count on the Rust's trees and the second reading"),
-            (By::OtherTexts, "with texts that are not ASCII, by the second reading alone"),
-        ] {
-            writeln!(f, "{:8} judged {words}", self.by.get(&by).unwrap_or(&0))?;
+        for by in By::ALL {
+            writeln!(f, "{:8} judged {}", self.by.get(&by).unwrap_or(&0), by.words())?;
         }
         writeln!(
             f,

@@ -20,21 +20,34 @@ pub fn line(label: &str, case: &Case, whole: &Whole) -> String {
     format!("{label} {} {five} {} {}", question(case), hex(&whole.output), hex(&whole.detail))
 }
 
-/// One case for people: the image's sections, the question and the answer.
+/// One case for people: the question, the image's sections and the answer.
 pub fn readable(case: &Case, whole: &Whole) -> String {
+    format!("{}{}{}", asked(case), image(&case.image), answered(case, whole))
+}
+
+/// The question without its image, for people.
+pub fn asked(case: &Case) -> String {
+    format!("{:?} of row {}, {} bytes of output, {} of detail\n", case.call, case.row, case.output, case.detail)
+}
+
+/// An image's length and sections, for people.
+pub fn image(image: &[u8]) -> String {
+    format!("image: {} bytes\n{}", image.len(), sections(image))
+}
+
+/// The answer, with the texts of its names and its sentence, for people.
+pub fn answered(case: &Case, whole: &Whole) -> String {
     let (image, a) = (&case.image, &whole.answer);
     let name = |row: u32| match sentence::name(image, row) {
         Some(text) if row != NONE => format!("{row} '{}'", text.escape_default()),
         _ => "none".into(),
     };
     let told = sentence::sentence(image, a, &whole.detail).map_or(String::new(), |(text, _)| text);
-    format!(
-        "{:?} of row {}, {} bytes of output, {} of detail\nimage: {} bytes\n{}number {}, function {}, second {}, length {}, \
-         visits {}\noutput: {}\ndetail: {}\n{}\n",
-        case.call, case.row, case.output, case.detail, image.len(), sections(image),
-        a.number, name(a.function), name(a.second), a.length, a.visits,
-        words(&whole.output), words(&whole.detail), told.escape_debug(),
-    )
+    let (number, function, second) = (a.number, name(a.function), name(a.second));
+    let fields =
+        format!("number {number}, function {function}, second {second}, length {}, visits {}", a.length, a.visits);
+    let (output, detail) = (words(&whole.output), words(&whole.detail));
+    format!("{fields}\noutput: {output}\ndetail: {detail}\n{}\n", told.escape_debug())
 }
 
 /// The sections by the trailer, as far as they make sense.

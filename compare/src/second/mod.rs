@@ -59,6 +59,13 @@ pub fn readable(image: &[u8]) -> bool {
     image::read(image).is_some()
 }
 
+/// "its lowest implementation row (0 if none)"; 0 where the image is unreadable, too.
+pub fn lowest_implementation(image: &[u8]) -> u32 {
+    let definitions = image::read(image).map_or(vec![], |image| image.definitions);
+    let first = definitions.iter().position(|definition| matches!(definition, Definition::Implementation(_)));
+    first.unwrap_or(0) as u32
+}
+
 /// Answers a call; both buffers are written as 01 says and nowhere else.
 pub fn answer(call: Call, image: &[u8], row: u32, output: &mut [u8], detail: &mut [u8]) -> Answer {
     let refused = |number, length| Answer { number, function: NONE, second: NONE, length, visits: 0 };
