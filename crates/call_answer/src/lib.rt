@@ -7,17 +7,15 @@ use impl_trait::Subject;
 use rules::ids::NameId;
 use rules::ids::TypeId;
 ghost use Prim.Native.Nat.{_≤_};
-ghost use mathlib.Core.Path.{_≡_};
 ghost use lib.ListN.{length};
 ghost use Rattle.rules.specs.Syntax.{CompiledSchema};
-ghost use Rattle.rules.specs.Answer.{finished};
 ghost use Rattle.image_layout.specs.Rows.{Cut};
 ghost use Rattle.image_layout.specs.Open.{Open};
 ghost use Rattle.image_layout.specs.Opens.{Opens};
-ghost use Rattle.answers.specs.Answers.{answer-of, Comes};
+ghost use Rattle.answers.specs.Answers.{Comes};
 ghost use Rattle.impl_trait.specs.Subjects.{About};
-ghost use Rattle.project_impl.specs.Asked.{Few};
-ghost use Rattle.call_answer.specs.Calls.{call-of, after-subject};
+ghost use Rattle.call_answer.specs.Calls.{call-of};
+ghost use Rattle.call_answer.specs.Contracts.{ComesAfterSubject, AnswersReadable};
 
 pub enum Call {
     Signatures,
@@ -27,7 +25,7 @@ pub enum Call {
 // What comes behind 3 and 4.
 fn after_subject(call: Call, image: &[u8], l: Layout, f: Subject, out: &mut [u8]) -> Outcome
     requires { ⌜ Cut (now image) l × About (now image) l f ⌝ }
-    ensures { λ r. ⌜ ((a : About (now (image .entry)) l f) → Few (after-subject call (a .schema) (a .impl) (a .trait)) → Comes (after-subject call (a .schema) (a .impl) (a .trait)) (now (out .entry)) (now (out .exit)) r) ⌝ }
+    ensures { λ r. ⌜ ComesAfterSubject call (now (image .entry)) l f (now (out .entry)) (now (out .exit)) r ⌝ }
 {
     match call {
         Call::Signatures => expected_functions::expected_functions(image, l, f.start, f.types, out),
@@ -57,7 +55,7 @@ pub fn answer_readable(
     detail: &mut [u8],
 ) -> Answer
     requires { ⌜ Cut (now image) l × Opens (now image) l × (576 ≤ length (now detail)) ⌝ }
-    ensures { λ r. ⌜ ((s : CompiledSchema) → Open (now (image .entry)) l s → answer-of r (now (output .exit)) (now (detail .exit)) ≡ finished (call-of call (number .0) s) (now (output .entry)) (now (detail .entry))) ⌝ }
+    ensures { λ r. ⌜ AnswersReadable call (now (image .entry)) l number (now (output .entry)) (now (output .exit)) (now (detail .entry)) (now (detail .exit)) r ⌝ }
 {
     let mut first = [0u8; 16384];
     let m = pass(call, image, l, number, &mut first);

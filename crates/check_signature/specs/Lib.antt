@@ -1,3 +1,4 @@
 pub mod Details
 pub mod Params
 pub mod Whole
+pub mod Contracts

@@ -11,15 +11,13 @@ ghost use mathlib.Core.Path.{_≡_};
 ghost use mathlib.Core.Option.{Option};
 ghost use Prim.Native.Nat.{ℕ, _≤_};
 ghost use Rattle.rules.specs.Syntax.{ResolvedType, ImplFnDef};
-ghost use Rattle.rules.specs.Signatures.{PortableSignature};
-ghost use Rattle.rules.specs.CheckSignature.{check-signature};
 ghost use Rattle.type_words.specs.Holds.{MaybeHolds};
 ghost use Rattle.image_layout.specs.Rows.{Inside};
 ghost use Rattle.image_layout.specs.Open.{pool-words};
 ghost use Rattle.pool_definitions.specs.DefinitionAt.{Function-stands};
-ghost use Rattle.locals.specs.Rows.{Rows};
 ghost use Rattle.project_outcome.specs.Outcomes.{Passes};
 ghost use Rattle.check_signature.specs.Whole.{check-return};
+ghost use Rattle.check_signature.specs.Contracts.{ChecksSignature};
 
 // A count of the table's rows as a word.
 fn as_word(count: usize) -> u32
@@ -55,7 +53,7 @@ pub fn check_signature(
     returns: MaybeType,
 ) -> Outcome
     requires { ⌜ Inside (now image) l ⌝ }
-    ensures { λ r. ⌜ ((f : ImplFnDef) (n : ℕ) → Function-stands (l .names .rows) (l .strings .rows) (pool-words (now (image .entry)) l) f at n → (sig : PortableSignature) → sig .name ≡ name .0 → Rows (l .names .rows) (now (names .entry)) (now (words .entry)) (now (lens .entry)) count 0 (sig .params) → MaybeHolds (l .names .rows) returns (sig .return-type) → Passes (check-signature f sig) r) ⌝ }
+    ensures { λ r. ⌜ ChecksSignature (now (image .entry)) l at name (now (names .entry)) (now (words .entry)) (now (lens .entry)) count returns r ⌝ }
 {
     let pool = l.pool;
     let start = message_fields::after(pool, at);

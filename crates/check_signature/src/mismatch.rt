@@ -4,7 +4,7 @@ use rules::ids::NameId;
 use type_words::HeldType;
 use type_words::MaybeType;
 ghost use mathlib.Core.Path.{_≡_};
-ghost use mathlib.Core.List.{[], _∷_, _++_};
+ghost use mathlib.Core.List.{[], _∷_};
 ghost use mathlib.Core.Option.{Option};
 ghost use Prim.Native.Nat.{ℕ, _≤_};
 ghost use lib.ListN.{length};
@@ -15,6 +15,7 @@ ghost use Rattle.type_words.specs.Runs.{held-run};
 ghost use Rattle.type_words.specs.Holds.{MaybeHolds};
 ghost use Rattle.answers.specs.Refusals.{detail-of, refusal-of, adding};
 ghost use Rattle.check_signature.specs.Details.{type-detail};
+ghost use Rattle.check_signature.specs.Contracts.{WrongReturn};
 
 // Two words: counts, or names.
 pub fn wrong_word(function: NameId, kind: u32, expected: u32, found: u32) -> Refusal
@@ -49,7 +50,7 @@ fn add_return(r: Refusal, t: MaybeType) -> Refusal
 
 // Two returns.
 pub fn wrong_return(function: NameId, expected: MaybeType, found: MaybeType) -> Refusal
-    ensures { λ r. ⌜ ((names : ℕ) (e a : Option ResolvedType) → MaybeHolds names expected e → MaybeHolds names found a → refusal-of r ≡ with-detail 6 (function .0) (4 ∷ (return-words e ++ return-words a))) ⌝ }
+    ensures { λ r. ⌜ WrongReturn function expected found r ⌝ }
 {
     add_return(
         add_return(Refusal::at(6, function).word(4), expected),

@@ -4,20 +4,9 @@ use image_layout::Layout;
 use rules::ids::NameId;
 use type_words::HeldType;
 ghost use mathlib.Core.Path.{_≡_};
-ghost use mathlib.Core.List.{List};
-ghost use Prim.Native.Nat.{ℕ};
-ghost use lib.ListN.{length, getD};
-ghost use Rattle.rules.specs.Syntax.{ResolvedType, Param};
-ghost use Rattle.rules.specs.CheckSignature.{check-params};
-ghost use Rattle.type_words.specs.Holds.{Holds};
-ghost use Rattle.image_words.specs.Gives.{Row};
+ghost use lib.ListN.{getD};
 ghost use Rattle.image_layout.specs.Rows.{Inside};
-ghost use Rattle.image_layout.specs.Open.{pool-words};
-ghost use Rattle.pool_types.specs.TypeAt.{Type-stands};
-ghost use Rattle.pool_types.specs.ParamAt.{Param-at};
-ghost use Rattle.locals.specs.Rows.{Rows};
-ghost use Rattle.project_outcome.specs.Outcomes.{Passes};
-ghost use Rattle.check_signature.specs.Params.{check-param};
+ghost use Rattle.check_signature.specs.Contracts.{ChecksParam, ChecksParams};
 
 // The name in a row of the table, 0 past its end.
 fn name_at(names: &[u32], i: usize) -> NameId
@@ -37,7 +26,7 @@ fn check_param(
     found: NameId,
     actual: HeldType,
 ) -> Outcome
-    ensures { λ r. ⌜ ((rows : ℕ) (a e : Param ResolvedType) → found .0 ≡ a .name → wanted .0 ≡ e .name → Holds rows actual (a .ty) → Holds rows expected (e .ty) → Passes (check-param (function .0) a e) r) ⌝ }
+    ensures { λ r. ⌜ ChecksParam function wanted expected found actual r ⌝ }
 {
     if found.0 != wanted.0 {
         return answers::answer::refused(crate::mismatch::wrong_word(
@@ -70,7 +59,7 @@ pub fn check_params(
     count: usize,
 ) -> Outcome
     requires { ⌜ Inside (now image) l ⌝ }
-    ensures { λ r. ⌜ ((ps es : List (Param ResolvedType)) (n : ℕ) → Row (Param-at (l .names .rows) (pool-words (now (image .entry)) l) (Type-stands (l .names .rows) (pool-words (now (image .entry)) l))) ps at n → Rows (l .names .rows) (now (names .entry)) (now (words .entry)) (now (lens .entry)) count 0 es → length ps ≡ length es → Passes (check-params (function .0) ps es) r) ⌝ }
+    ensures { λ r. ⌜ ChecksParams (now (image .entry)) l at function (now (names .entry)) (now (words .entry)) (now (lens .entry)) count r ⌝ }
 {
     let pool = l.pool;
     let mut i = 0;

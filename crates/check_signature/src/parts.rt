@@ -2,15 +2,12 @@
 use image_layout::Layout;
 use type_words::MaybeType;
 ghost use mathlib.Core.Path.{_≡_};
-ghost use mathlib.Core.Option.{Option};
 ghost use Prim.Native.Nat.{ℕ};
-ghost use Rattle.rules.specs.Syntax.{ResolvedType, ImplFnDef};
-ghost use Rattle.type_words.specs.Holds.{MaybeHolds};
-ghost use Rattle.image_words.specs.Gives.{Maybe-at};
+ghost use Rattle.rules.specs.Syntax.{ImplFnDef};
 ghost use Rattle.image_layout.specs.Rows.{Inside};
 ghost use Rattle.image_layout.specs.Open.{pool-words};
-ghost use Rattle.pool_types.specs.TypeAt.{Type-stands};
 ghost use Rattle.pool_definitions.specs.DefinitionAt.{Function-stands};
+ghost use Rattle.check_signature.specs.Contracts.{HoldsReturn};
 
 // Where the return of the function at `at` stands: behind its name and its parameters.
 pub fn return_start(image: &[u8], l: Layout, at: usize) -> usize
@@ -25,7 +22,7 @@ pub fn return_start(image: &[u8], l: Layout, at: usize) -> usize
 // The return at `at`: 0, or 1 and its type.
 pub fn hold_return(image: &[u8], l: Layout, at: usize) -> MaybeType
     requires { ⌜ Inside (now image) l ⌝ }
-    ensures { λ r. ⌜ ((o : Option ResolvedType) (n : ℕ) → Maybe-at (pool-words (now (image .entry)) l) (Type-stands (l .names .rows) (pool-words (now (image .entry)) l)) o at n → MaybeHolds (l .names .rows) r o) ⌝ }
+    ensures { λ r. ⌜ HoldsReturn (now (image .entry)) l at r ⌝ }
 {
     let pool = l.pool;
     if image_words::section_word(image, pool, at) == 0 {

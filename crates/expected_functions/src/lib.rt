@@ -3,15 +3,16 @@ use answers::answer::Outcome;
 use answers::refusal::Refusal;
 use image_layout::Layout;
 use rules::ids::NameId;
-ghost use Rattle.rules.specs.Signatures.{expected-list, expected-functions};
+ghost use Rattle.rules.specs.Signatures.{expected-functions};
 ghost use Rattle.image_layout.specs.Rows.{Cut};
 ghost use Rattle.answers.specs.Answers.{Comes};
 ghost use Rattle.expected_functions.specs.Asked.{Functions-here, Asked, in-words};
+ghost use Rattle.expected_functions.specs.Contracts.{ListsExpected};
 
 // The functions at `at`, with these type parameters in view. 8 comes before 7.
 pub fn expected_list(image: &[u8], l: Layout, at: usize, params: &[u32], out: &mut [u8]) -> Outcome
     requires { ⌜ Cut (now image) l × Functions-here (now image) l (now params) at ⌝ }
-    ensures { λ r. ⌜ ((h : Functions-here (now (image .entry)) l (now (params .entry)) at) → Comes (in-words (expected-list (h .schema) (h .seen) (h .tree))) (now (out .entry)) (now (out .exit)) r) ⌝ }
+    ensures { λ r. ⌜ ListsExpected (now (image .entry)) l at (now (params .entry)) (now (out .entry)) (now (out .exit)) r ⌝ }
 {
     let pool = l.pool;
     let count = image_words::section_word(image, pool, at);

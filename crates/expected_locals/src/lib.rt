@@ -4,19 +4,17 @@ use rules::ids::NameId;
 use type_words::HeldType;
 use type_words::MaybeType;
 ghost use Prim.Native.Nat.{ℕ, _≤_};
-ghost use mathlib.Core.List.{List};
 ghost use mathlib.Core.Option.{Option, some};
 ghost use lib.ListN.{length};
-ghost use Rattle.rules.specs.Syntax.{ResolvedType, Param};
+ghost use Rattle.rules.specs.Syntax.{ResolvedType};
 ghost use Rattle.rules.specs.Types.{return-words};
-ghost use Rattle.rules.specs.Signatures.{resolve-params, resolve-return};
-ghost use Rattle.rules.specs.Output.{param-words, listed, signature-words};
+ghost use Rattle.rules.specs.Signatures.{resolve-return};
 ghost use Rattle.image_layout.specs.Rows.{Cut};
 ghost use Rattle.type_words.specs.Holds.{Holds, MaybeHolds};
-ghost use Rattle.locals.specs.Rows.{Row, Rows};
 ghost use Rattle.write_words.specs.Written.{Written};
 ghost use Rattle.expected_signature.specs.Here.{Params-here, Return-here};
-ghost use Rattle.expected_locals.specs.Entered.{Entered-says, Returned-says, Returned-done};
+ghost use Rattle.expected_locals.specs.Entered.{Returned-says, Returned-done};
+ghost use Rattle.expected_locals.specs.Contracts.{EntersParams, PutsParam, PutsParams, PutsSignature};
 
 // Whether the parameters keep the bounds; then how many they are, and the place behind them in the pool.
 pub struct Entered {
@@ -43,7 +41,7 @@ pub fn enter_params(
     lens: &mut [u32],
 ) -> Entered
     requires { ⌜ Cut (now image) l × Params-here (now image) l (now params) at × (64 ≤ length (now names)) × (4096 ≤ length (now words)) × (64 ≤ length (now lens)) ⌝ }
-    ensures { λ r. ⌜ ((h : Params-here (now (image .entry)) l (now (params .entry)) at) → Entered-says (l .names .rows) (resolve-params (h .schema) (h .seen) (h .tree)) (h .behind) (now (names .exit)) (now (words .exit)) (now (lens .exit)) r) ⌝ }
+    ensures { λ r. ⌜ EntersParams (now (image .entry)) l at (now (params .entry)) (now (names .exit)) (now (words .exit)) (now (lens .exit)) r ⌝ }
 {
     let pool = l.pool;
     let count = image_words::section_word(image, pool, at) as usize;
@@ -124,7 +122,7 @@ fn put_param(
     to: usize,
 ) -> usize
     requires { ⌜ limit ≤ length (now out) ⌝ }
-    ensures { λ r. ⌜ ((rows : ℕ) (p : Param ResolvedType) → Row rows (now (names .entry)) (now (words .entry)) (now (lens .entry)) i p → Written limit to (param-words p) (now (out .entry)) r (now (out .exit))) ⌝ }
+    ensures { λ r. ⌜ PutsParam (now (names .entry)) (now (words .entry)) (now (lens .entry)) i (now (out .entry)) (now (out .exit)) limit to r ⌝ }
 {
     if names.len() <= i {
         return to;
@@ -145,7 +143,7 @@ fn put_params(
     to: usize,
 ) -> usize
     requires { ⌜ limit ≤ length (now out) ⌝ }
-    ensures { λ r. ⌜ ((rows : ℕ) (ps : List (Param ResolvedType)) → Rows rows (now (names .entry)) (now (words .entry)) (now (lens .entry)) count 0 ps → Written limit to (listed param-words ps) (now (out .entry)) r (now (out .exit))) ⌝ }
+    ensures { λ r. ⌜ PutsParams (now (names .entry)) (now (words .entry)) (now (lens .entry)) count (now (out .entry)) (now (out .exit)) limit to r ⌝ }
 {
     if 64 < count {
         return to;
@@ -185,7 +183,7 @@ pub fn put_signature(
     to: usize,
 ) -> usize
     requires { ⌜ limit ≤ length (now out) ⌝ }
-    ensures { λ r. ⌜ ((rows : ℕ) (ps : List (Param ResolvedType)) (o : Option ResolvedType) → Rows rows (now (names .entry)) (now (words .entry)) (now (lens .entry)) count 0 ps → MaybeHolds rows returns o → Written limit to (signature-words (name .0) ps o) (now (out .entry)) r (now (out .exit))) ⌝ }
+    ensures { λ r. ⌜ PutsSignature name (now (names .entry)) (now (words .entry)) (now (lens .entry)) count returns (now (out .entry)) (now (out .exit)) limit to r ⌝ }
 {
     let a = write_words::put(out, limit, to, name.0);
     let b = put_params(names, words, lens, count, out, limit, a);

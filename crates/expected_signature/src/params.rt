@@ -2,11 +2,9 @@
 use crate::part::Part;
 use image_layout::Layout;
 ghost use Prim.Native.Nat.{_≤_};
-ghost use Rattle.rules.specs.Signatures.{poisoned-params, resolve-params};
-ghost use Rattle.rules.specs.Output.{param-words, listed};
 ghost use Rattle.image_layout.specs.Rows.{Cut};
 ghost use Rattle.expected_signature.specs.Here.{Param-here, Params-here};
-ghost use Rattle.expected_signature.specs.Parts.{Part-says, poisoned-param, resolve-param};
+ghost use Rattle.expected_signature.specs.Contracts.{ResolvesParam, ResolvesParams};
 
 // A name, and its type substituted.
 pub fn resolve_param(
@@ -18,7 +16,7 @@ pub fn resolve_param(
     to: usize,
 ) -> Part
     requires { ⌜ Cut (now image) l × Param-here (now image) l (now params) at × (to ≤ 800000000) ⌝ }
-    ensures { λ r. ⌜ ((h : Param-here (now (image .entry)) l (now (params .entry)) at) → Part-says param-words poisoned-param (resolve-param (h .schema) (h .seen) (h .tree)) (h .behind) to (now (out .entry)) (now (out .exit)) r) ⌝ }
+    ensures { λ r. ⌜ ResolvesParam (now (image .entry)) l at (now (params .entry)) (now (out .entry)) (now (out .exit)) to r ⌝ }
 {
     let s = subst::whole::substitute(image, l, at + 1, params);
     if !s.ok {
@@ -47,7 +45,7 @@ pub fn resolve_params(
     to: usize,
 ) -> Part
     requires { ⌜ Cut (now image) l × Params-here (now image) l (now params) at × (to ≤ 700000000) ⌝ }
-    ensures { λ r. ⌜ ((h : Params-here (now (image .entry)) l (now (params .entry)) at) → Part-says (listed param-words) poisoned-params (resolve-params (h .schema) (h .seen) (h .tree)) (h .behind) to (now (out .entry)) (now (out .exit)) r) ⌝ }
+    ensures { λ r. ⌜ ResolvesParams (now (image .entry)) l at (now (params .entry)) (now (out .entry)) (now (out .exit)) to r ⌝ }
 {
     let pool = l.pool;
     let count = image_words::section_word(image, pool, at);

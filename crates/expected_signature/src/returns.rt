@@ -5,11 +5,11 @@ use type_words::MaybeType;
 ghost use Prim.Native.Nat.{ℕ, _≤_};
 ghost use mathlib.Core.Option.{Option};
 ghost use Rattle.rules.specs.Syntax.{ResolvedType};
-ghost use Rattle.rules.specs.Signatures.{resolve-return};
 ghost use Rattle.image_layout.specs.Rows.{Cut};
 ghost use Rattle.type_words.specs.Holds.{MaybeHolds};
 ghost use Rattle.expected_signature.specs.Here.{Return-here};
-ghost use Rattle.expected_signature.specs.Parts.{Part-says, Part-done, normal-words, normal-poisoned};
+ghost use Rattle.expected_signature.specs.Parts.{Part-done, normal-words, normal-poisoned};
+ghost use Rattle.expected_signature.specs.Contracts.{ResolvesReturn};
 
 // Void is no return: 0, or 1 and the type's run.
 fn put_return(out: &mut [u8], to: usize, t: MaybeType, next: usize, visits: u32) -> Part
@@ -49,7 +49,7 @@ pub fn resolve_return(
     to: usize,
 ) -> Part
     requires { ⌜ Cut (now image) l × Return-here (now image) l (now params) at × (to ≤ 800000000) ⌝ }
-    ensures { λ r. ⌜ ((h : Return-here (now (image .entry)) l (now (params .entry)) at) → Part-says normal-words normal-poisoned (resolve-return (h .schema) (h .seen) (h .tree)) (h .behind) to (now (out .entry)) (now (out .exit)) r) ⌝ }
+    ensures { λ r. ⌜ ResolvesReturn (now (image .entry)) l at (now (params .entry)) (now (out .entry)) (now (out .exit)) to r ⌝ }
 {
     let pool = l.pool;
     let form = image_words::section_word(image, pool, at);

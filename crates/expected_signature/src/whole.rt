@@ -2,10 +2,9 @@
 use crate::part::Part;
 use image_layout::Layout;
 ghost use Prim.Native.Nat.{_≤_};
-ghost use Rattle.rules.specs.Signatures.{resolve-signature};
 ghost use Rattle.image_layout.specs.Rows.{Cut};
 ghost use Rattle.expected_signature.specs.Here.{Function-here};
-ghost use Rattle.expected_signature.specs.Parts.{Part-says, words-of, poisoned-signature};
+ghost use Rattle.expected_signature.specs.Contracts.{ResolvesSignature};
 
 // A name, the parameters and the return.
 pub fn resolve_signature(
@@ -17,7 +16,7 @@ pub fn resolve_signature(
     to: usize,
 ) -> Part
     requires { ⌜ Cut (now image) l × Function-here (now image) l (now params) at × (to ≤ 600000000) ⌝ }
-    ensures { λ r. ⌜ ((h : Function-here (now (image .entry)) l (now (params .entry)) at) → Part-says words-of poisoned-signature (resolve-signature (h .schema) (h .seen) (h .tree)) (h .behind) to (now (out .entry)) (now (out .exit)) r) ⌝ }
+    ensures { λ r. ⌜ ResolvesSignature (now (image .entry)) l at (now (params .entry)) (now (out .entry)) (now (out .exit)) to r ⌝ }
 {
     let pool = l.pool;
     let a = answers::output::put(out, to, image_words::section_word(image, pool, at));

@@ -6,9 +6,7 @@ use rules::ids::TypeId;
 ghost use mathlib.Core.Path.{_≡_};
 ghost use Rattle.rules.specs.Options.{is-some};
 ghost use Rattle.rules.specs.Image.{readable};
-ghost use Rattle.rules.specs.Answer.{project-answer, signatures-answer};
-ghost use Rattle.export_block.specs.Block.{Exported};
-ghost use Rattle.call_answer.specs.Calls.{answer-for};
+ghost use Rattle.exports.specs.Contracts.{ExportsCall, ExportsExpected, ExportsProject};
 
 // Whether the image is readable.
 #[no_mangle]
@@ -27,7 +25,7 @@ fn export(
     detail: &mut [u8],
     answer: &mut [u32],
 ) -> u32
-    ensures { λ r. ⌜ Exported (answer-for call (now (image .entry)) number (now (output .entry)) (now (detail .entry))) r (now (output .entry)) (now (output .exit)) (now (detail .entry)) (now (detail .exit)) (now (answer .entry)) (now (answer .exit)) ⌝ }
+    ensures { λ r. ⌜ ExportsCall call (now (image .entry)) number (now (output .entry)) (now (output .exit)) (now (detail .entry)) (now (detail .exit)) (now (answer .entry)) (now (answer .exit)) r ⌝ }
 {
     if answer.len() < 5 {
         return SHORT_BLOCK;
@@ -45,7 +43,7 @@ pub extern "C" fn fruscalitu_expected_signatures(
     detail: &mut [u8],
     answer: &mut [u32],
 ) -> u32
-    ensures { λ r. ⌜ Exported (signatures-answer (now (image .entry)) number (now (output .entry)) (now (detail .entry))) r (now (output .entry)) (now (output .exit)) (now (detail .entry)) (now (detail .exit)) (now (answer .entry)) (now (answer .exit)) ⌝ }
+    ensures { λ r. ⌜ ExportsExpected (now (image .entry)) number (now (output .entry)) (now (output .exit)) (now (detail .entry)) (now (detail .exit)) (now (answer .entry)) (now (answer .exit)) r ⌝ }
 {
     export(Call::Signatures, image, number, output, detail, answer)
 }
@@ -59,7 +57,7 @@ pub extern "C" fn fruscalitu_project_impl(
     detail: &mut [u8],
     answer: &mut [u32],
 ) -> u32
-    ensures { λ r. ⌜ Exported (project-answer (now (image .entry)) number (now (output .entry)) (now (detail .entry))) r (now (output .entry)) (now (output .exit)) (now (detail .entry)) (now (detail .exit)) (now (answer .entry)) (now (answer .exit)) ⌝ }
+    ensures { λ r. ⌜ ExportsProject (now (image .entry)) number (now (output .entry)) (now (output .exit)) (now (detail .entry)) (now (detail .exit)) (now (answer .entry)) (now (answer .exit)) r ⌝ }
 {
     export(Call::Projection, image, number, output, detail, answer)
 }

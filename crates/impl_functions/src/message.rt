@@ -5,16 +5,9 @@ use rules::ids::TypeId;
 use rules::kinds::DefinitionKind;
 use type_words::HeldType;
 ghost use mathlib.Core.Path.{_≡_};
-ghost use Prim.Native.Nat.{ℕ};
-ghost use Rattle.rules.specs.Syntax.{ResolvedType, CompiledSchema};
-ghost use Rattle.rules.specs.Options.{then};
-ghost use Rattle.rules.specs.Substitute.{get, number};
-ghost use Rattle.rules.specs.Project.{as-message};
 ghost use Rattle.image_layout.specs.Rows.{Inside};
-ghost use Rattle.image_layout.specs.Open.{Open, pool-words};
-ghost use Rattle.pool_types.specs.TypeAt.{Type-stands};
-ghost use Rattle.impl_rows.specs.Found.{Finds};
-ghost use Rattle.impl_functions.specs.Functions.{is-message-kind, Message-here};
+ghost use Rattle.impl_functions.specs.Functions.{is-message-kind};
+ghost use Rattle.impl_functions.specs.Contracts.{FindsTarget};
 
 fn is_message(k: DefinitionKind) -> bool
     ensures { λ r. ⌜ r ≡ is-message-kind k ⌝ }
@@ -32,7 +25,7 @@ fn is_message(k: DefinitionKind) -> bool
 // Where the message stands that the type at `at` is Named to.
 pub fn target_message(image: &[u8], l: Layout, at: usize) -> Found
     requires { ⌜ Inside (now image) l ⌝ }
-    ensures { λ r. ⌜ ((s : CompiledSchema) → Open (now (image .entry)) l s → (t : ResolvedType) (n : ℕ) → Type-stands (l .names .rows) (pool-words (now (image .entry)) l) t at n → Finds (Message-here (now (image .entry)) l) (then (number t) (λ d. then (get s d) as-message)) r) ⌝ }
+    ensures { λ r. ⌜ FindsTarget (now (image .entry)) l at r ⌝ }
 {
     let pool = l.pool;
     if image_words::section_word(image, pool, at) != HeldType::NAMED {

@@ -2,18 +2,13 @@
 use answers::answer::Outcome;
 use answers::refusal::Refusal;
 use image_layout::Layout;
-ghost use mathlib.Core.List.{List, map};
-ghost use Prim.Native.Nat.{ℕ};
-ghost use Rattle.rules.specs.Syntax.{ImplFnDef, TraitFnDef};
-ghost use Rattle.rules.specs.Project.{no-stranger};
 ghost use Rattle.image_layout.specs.Rows.{Inside};
-ghost use Rattle.project_outcome.specs.Outcomes.{Passes};
-ghost use Rattle.impl_functions.specs.Functions.{Placed, All-asked-here};
+ghost use Rattle.impl_functions.specs.Contracts.{TellsStrangers};
 
 // 10 at the first of the functions at these places that is none of the trait functions at `trait_at`.
 pub fn no_stranger(image: &[u8], l: Layout, trait_at: usize, places: &[usize]) -> Outcome
     requires { ⌜ Inside (now image) l ⌝ }
-    ensures { λ r. ⌜ ((ts : List TraitFnDef) (m : ℕ) → All-asked-here (now (image .entry)) l ts «trait_at» m → (fs : List ImplFnDef) → Placed (now (image .entry)) l fs (now (places .entry)) → Passes (no-stranger (map (λ t. t .name) ts) fs) r) ⌝ }
+    ensures { λ r. ⌜ TellsStrangers (now (image .entry)) l «trait_at» (now (places .entry)) r ⌝ }
 {
     let pool = l.pool;
     let names = crate::names::function_names(image, l, trait_at);

@@ -1,3 +1,4 @@
 pub mod Stood
 pub mod InContext
 pub mod PlaceKinds
+pub mod Contracts

@@ -5,19 +5,14 @@ use rules::ids::NameId;
 use rules::kinds::ExprKind;
 use type_words::MaybeType;
 ghost use mathlib.Core.Path.{_≡_};
-ghost use mathlib.Core.List.{List};
-ghost use mathlib.Core.Option.{Option};
-ghost use Prim.Native.Nat.{ℕ, _+_, _<_};
+ghost use Prim.Native.Nat.{_+_, _<_};
 ghost use lib.ListN.{length, getD};
-ghost use Rattle.rules.specs.Syntax.{ResolvedType, Expr};
 ghost use Rattle.rules.specs.Kinds.{expr-kind};
-ghost use Rattle.rules.specs.Infer.{expression-hint, binary-hint};
-ghost use Rattle.type_words.specs.Holds.{MaybeHolds};
 ghost use Rattle.image_layout.specs.Rows.{Inside};
 ghost use Rattle.image_layout.specs.Open.{pool-words};
-ghost use Rattle.infer_context.specs.Stood.{Stood, AtExpr};
-ghost use Rattle.infer_context.specs.InContext.{AtContext};
+ghost use Rattle.infer_context.specs.Stood.{AtExpr};
 ghost use Rattle.infer_context.specs.PlaceKinds.{place-kind};
+ghost use Rattle.infer_context.specs.Contracts.{HintsField, HintsExpression, HintsBinary};
 
 // A function's context: its name, where the message's fields and the target type stand, and how many locals are in view.
 pub struct Context {
@@ -90,7 +85,7 @@ pub fn skip_expr(image: &[u8], l: Layout, at: usize, nest: u32) -> usize
 // The type of a field access, if its receiver is SelfRef.
 fn field_hint(image: &[u8], l: Layout, ctx: Context, at: usize) -> MaybeType
     requires { ⌜ Inside (now image) l ⌝ }
-    ensures { λ r. ⌜ ((names words lens : List ℕ) → AtContext (now (image .entry)) l names words lens ctx (λ c. (nest f : ℕ) (e : Expr) (n : ℕ) → Stood (l .names .rows) (l .strings .rows) (pool-words (now (image .entry)) l) nest (Expr.field-access f e) at n → MaybeHolds (l .names .rows) r (expression-hint c (Expr.field-access f e)))) ⌝ }
+    ensures { λ r. ⌜ HintsField (now (image .entry)) l ctx at r ⌝ }
 {
     let k = place_kind(kind_at(image, l, first_part(l, at)));
     match k {
@@ -117,7 +112,7 @@ pub fn expression_hint(
     at: usize,
 ) -> MaybeType
     requires { ⌜ Inside (now image) l ⌝ }
-    ensures { λ r. ⌜ AtContext (now (image .entry)) l (now (names .entry)) (now (words .entry)) (now (lens .entry)) ctx (λ c. (nest : ℕ) → AtExpr (now (image .entry)) l nest at (λ e n. MaybeHolds (l .names .rows) r (expression-hint c e))) ⌝ }
+    ensures { λ r. ⌜ HintsExpression (now (image .entry)) l ctx (now (names .entry)) (now (words .entry)) (now (lens .entry)) at r ⌝ }
 {
     let k = place_kind(kind_at(image, l, at));
     match k {
@@ -152,7 +147,7 @@ pub fn binary_hint(
     expected: MaybeType,
 ) -> MaybeType
     requires { ⌜ Inside (now image) l ⌝ }
-    ensures { λ r. ⌜ AtContext (now (image .entry)) l (now (names .entry)) (now (words .entry)) (now (lens .entry)) ctx (λ c. (nest : ℕ) → AtExpr (now (image .entry)) l nest left (λ d m. AtExpr (now (image .entry)) l nest right (λ e n. (o : Option ResolvedType) → MaybeHolds (l .names .rows) expected o → MaybeHolds (l .names .rows) r (binary-hint c op d e o)))) ⌝ }
+    ensures { λ r. ⌜ HintsBinary (now (image .entry)) l ctx (now (names .entry)) (now (words .entry)) (now (lens .entry)) op left right expected r ⌝ }
 {
     let a = expression_hint(image, l, ctx, names, words, lens, left);
     if a.some {

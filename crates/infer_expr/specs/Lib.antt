@@ -1,1 +1,2 @@
 pub mod Infers
+pub mod Contracts

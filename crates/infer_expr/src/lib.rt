@@ -9,13 +9,9 @@ use rules::ids::PrimitiveType;
 use rules::kinds::ExprKind;
 use type_words::HeldType;
 use type_words::MaybeType;
-ghost use mathlib.Core.Path.{_≡_};
-ghost use Prim.Native.Nat.{ℕ};
-ghost use Rattle.rules.specs.Syntax.{Expr, Exprs};
 ghost use Rattle.image_layout.specs.Rows.{Inside};
-ghost use Rattle.image_layout.specs.Open.{pool-words};
-ghost use Rattle.infer_context.specs.Stood.{Stood};
 ghost use Rattle.infer_expr.specs.Infers.{Infers, InfersBinary, InfersUnary};
+ghost use Rattle.infer_expr.specs.Contracts.{NamesMethod};
 
 // The contexts of an operand.
 const BINARY_EXPRESSION: u32 = 6;
@@ -25,7 +21,7 @@ const UNARY_EXPRESSION: u32 = 7;
 // The method's name in a trait method's call.
 fn method_name(image: &[u8], l: Layout, at: usize) -> NameId
     requires { ⌜ Inside (now image) l ⌝ }
-    ensures { λ r. ⌜ ((nest t x n : ℕ) (e : Expr) (es : Exprs) → Stood (l .names .rows) (l .strings .rows) (pool-words (now (image .entry)) l) nest (Expr.trait-method-call t x e es) at n → r .0 ≡ x) ⌝ }
+    ensures { λ r. ⌜ NamesMethod (now (image .entry)) l at r ⌝ }
 {
     let pool = l.pool;
     NameId(infer_context::operand(image, l, message_fields::after(pool, at)))

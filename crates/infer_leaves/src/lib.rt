@@ -7,20 +7,15 @@ use rules::ids::PrimitiveType;
 use type_words::HeldType;
 use type_words::MaybeType;
 ghost use mathlib.Core.Path.{_≡_};
-ghost use mathlib.Core.Option.{Option};
 ghost use Prim.Native.Nat.{ℕ, _+_, _*_, _<_};
-ghost use lib.ListN.{getD};
-ghost use Rattle.rules.specs.Syntax.{ResolvedType, Expr};
+ghost use Rattle.rules.specs.Syntax.{Expr};
 ghost use Rattle.rules.specs.Fits.{literal-own};
-ghost use Rattle.rules.specs.Infer.{FunctionContext, PortableExprKind, expression-hint, infer-expr};
 ghost use Rattle.type_words.specs.Holds.{Holds, EachMaybe, MaybeHolds};
 ghost use Rattle.type_tests.specs.Literals.{literal-type};
 ghost use Rattle.image_layout.specs.Rows.{Inside};
 ghost use Rattle.image_layout.specs.Open.{pool-words};
-ghost use Rattle.infer_context.specs.Stood.{Stood, AtExpr};
-ghost use Rattle.infer_context.specs.InContext.{AtContext};
-ghost use Rattle.infer_result.specs.Says.{Says};
-ghost use Rattle.infer_leaves.specs.Placed.{placed};
+ghost use Rattle.infer_context.specs.Stood.{Stood};
+ghost use Rattle.infer_leaves.specs.Contracts.{InfersLiteral, InfersPlace};
 
 // The 64 bits of a literal.
 fn literal_bits(image: &[u8], l: Layout, at: usize) -> u64
@@ -68,7 +63,7 @@ pub fn infer_literal(
     context: u32,
 ) -> Inferred
     requires { ⌜ Inside (now image) l ⌝ }
-    ensures { λ r. ⌜ ((nest k low high n : ℕ) → Stood (l .names .rows) (l .strings .rows) (pool-words (now (image .entry)) l) nest (Expr.literal k low high) at n → (o : Option ResolvedType) → MaybeHolds (l .names .rows) expected o → (c : FunctionContext) → Says (l .names .rows) (c .function) (infer-expr c (Expr.literal k low high) o context) r) ⌝ }
+    ensures { λ r. ⌜ InfersLiteral (now (image .entry)) l at expected context r ⌝ }
 {
     let pool = l.pool;
     let code = image_words::section_word(image, pool, at);
@@ -95,7 +90,7 @@ pub fn infer_place(
     number: u32,
 ) -> Inferred
     requires { ⌜ Inside (now image) l ⌝ }
-    ensures { λ r. ⌜ AtContext (now (image .entry)) l (now (names .entry)) (now (words .entry)) (now (lens .entry)) ctx (λ c. (nest : ℕ) → AtExpr (now (image .entry)) l nest at (λ e n. 0 < number → number < 20 → (o : Option ResolvedType) → MaybeHolds (l .names .rows) expected o → (k : PortableExprKind) → Says (l .names .rows) (c .function) (placed c number (getD (pool-words (now (image .entry)) l) (at + 1) 0) (expression-hint c e) o context k) r)) ⌝ }
+    ensures { λ r. ⌜ InfersPlace (now (image .entry)) l ctx (now (names .entry)) (now (words .entry)) (now (lens .entry)) at expected context number r ⌝ }
 {
     let h = infer_context::expression_hint(image, l, ctx, names, words, lens, at);
     if h.some {

@@ -5,13 +5,13 @@ use type_words::HeldType;
 use type_words::MaybeType;
 ghost use mathlib.Core.Path.{_≡_};
 ghost use mathlib.Core.List.{_∷_};
-ghost use mathlib.Core.Option.{Option};
 ghost use Prim.Native.Nat.{ℕ, _<_};
 ghost use Rattle.rules.specs.Syntax.{ResolvedType, run};
 ghost use Rattle.rules.specs.Refusal.{err, with-name, with-detail};
-ghost use Rattle.rules.specs.Infer.{FunctionContext, PortableExprKind, type-mismatch, ended};
-ghost use Rattle.type_words.specs.Holds.{Holds, MaybeHolds};
+ghost use Rattle.rules.specs.Infer.{FunctionContext, type-mismatch, ended};
+ghost use Rattle.type_words.specs.Holds.{Holds};
 ghost use Rattle.infer_result.specs.Says.{Says};
+ghost use Rattle.infer_result.specs.Contracts.{Ends};
 
 // Number 0 and the type; or the refusal's number, second name and detail: a word, for 20 the expected type, and a type.
 pub struct Inferred {
@@ -75,7 +75,7 @@ pub fn invalid_operator(operator: u32, operand: HeldType) -> Inferred
 
 // An expression's type is the expected one, or 20 in the caller's context.
 pub fn ended(expected: MaybeType, context: u32, ty: HeldType) -> Inferred
-    ensures { λ r. ⌜ ((names : ℕ) (o : Option ResolvedType) (t : ResolvedType) → MaybeHolds names expected o → Holds names ty t → (c : FunctionContext) (k : PortableExprKind) → Says names (c .function) (ended c o context t k) r) ⌝ }
+    ensures { λ r. ⌜ Ends expected context ty r ⌝ }
 {
     if expected.some {
         let wanted = expected.ty;

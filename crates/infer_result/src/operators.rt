@@ -11,14 +11,12 @@ use type_words::HeldType;
 use type_words::MaybeType;
 ghost use mathlib.Core.Path.{_≡_};
 ghost use mathlib.Core.Bool.{cond};
-ghost use mathlib.Core.Option.{Option};
 ghost use Prim.Native.Nat.{ℕ, _+_, _<_};
 ghost use Rattle.rules.specs.Syntax.{ResolvedType};
 ghost use Rattle.rules.specs.Types.{BOOL};
-ghost use Rattle.rules.specs.Infer.{FunctionContext, PortableExprKind, is-arithmetic, operand-allowed, unary-allowed};
-ghost use Rattle.type_words.specs.Holds.{Holds, Each, MaybeHolds};
-ghost use Rattle.infer_result.specs.Says.{Says};
-ghost use Rattle.infer_result.specs.Operators.{binary-end, unary-end};
+ghost use Rattle.rules.specs.Infer.{is-arithmetic, operand-allowed, unary-allowed};
+ghost use Rattle.type_words.specs.Holds.{Holds, Each};
+ghost use Rattle.infer_result.specs.Contracts.{EndsBinary, EndsUnary};
 
 // == and != take equality types, the others numeric ones.
 pub fn operand_allowed(op: u32, ty: HeldType) -> bool
@@ -59,7 +57,7 @@ fn unary_number(op: u32) -> u32
 
 // Once both operands are typed, from the left's type.
 pub fn end_binary(op: u32, ty: HeldType, expected: MaybeType, context: u32) -> Inferred
-    ensures { λ r. ⌜ ((names : ℕ) (o : Option ResolvedType) (t : ResolvedType) → MaybeHolds names expected o → Holds names ty t → (c : FunctionContext) (k : PortableExprKind) → Says names (c .function) (binary-end c op o context t k) r) ⌝ }
+    ensures { λ r. ⌜ EndsBinary op ty expected context r ⌝ }
 {
     if operand_allowed(op, ty) {
         return ended(expected, context, result_type(op, ty));
@@ -68,7 +66,7 @@ pub fn end_binary(op: u32, ty: HeldType, expected: MaybeType, context: u32) -> I
 }
 
 pub fn end_unary(op: u32, ty: HeldType, expected: MaybeType, context: u32) -> Inferred
-    ensures { λ r. ⌜ (op < 2 → (names : ℕ) (o : Option ResolvedType) (t : ResolvedType) → MaybeHolds names expected o → Holds names ty t → (c : FunctionContext) (k : PortableExprKind) → Says names (c .function) (unary-end c op o context t k) r) ⌝ }
+    ensures { λ r. ⌜ EndsUnary op ty expected context r ⌝ }
 {
     if unary_allowed(op, ty) {
         return ended(expected, context, ty);

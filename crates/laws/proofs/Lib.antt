@@ -12,3 +12,4 @@ pub mod Kept
 pub mod Substitution
 pub mod Schema
 pub mod MoreNames
+pub mod Laws

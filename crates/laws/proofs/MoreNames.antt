@@ -11,7 +11,7 @@ use Rattle.rules.specs.Output.{functions-words, signatures-words}
 use Rattle.rules.specs.Good.{Good, Stored}
 use Rattle.laws.proofs.Each.{map-all, map-option}
 use Rattle.rules.specs.Exact.{Few}
-use Rattle.rules.proofs.Typed.{TypedValue, TypedKind, TypedNested, TypedStatement, TypedSignature, TypedFunction}
+use Rattle.rules.specs.Typed.{TypedValue, TypedKind, TypedNested, TypedStatement, TypedSignature, TypedFunction}
 use Rattle.rules.proofs.TypedRuns as runs
 
 few-more : {A : Type 0} {most : ℕ} {P Q : A → Type 0} → ((a : A) → P a → Q a) → (xs : List A) → Few most P xs → Few most Q xs

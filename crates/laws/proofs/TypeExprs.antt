@@ -9,7 +9,8 @@ use Rattle.rules.specs.Reader.{Reader}
 use Rattle.rules.specs.Kinds.{type-kind}
 use Rattle.rules.specs.ReadTypes.{bits-inline, type-expr-node, type-expr-tree, type-expr}
 use Rattle.rules.specs.declared.kinds.TypeKind.{TypeKind}
-use Rattle.rules.specs.Good.{Good, IsLeaf, GoodExpr, depth-expr}
+use Rattle.rules.specs.Good.{Good, IsLeaf, GoodExpr}
+use Rattle.rules.proofs.Depth.{depth-expr}
 use Rattle.rules.proofs.Codes.{TypeCode, type-code}
 use Rattle.rules.specs.Exact.{Reads, Gives, Exact, Run}
 use Rattle.rules.proofs.ReadBack.{give-reads, then-reads, last-reads, word-reads, below-then}

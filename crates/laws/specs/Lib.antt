@@ -4,3 +4,4 @@ pub mod Runs
 pub mod DefinitionRuns
 pub mod GoodSchema
 pub mod Substitution
+pub mod Laws

@@ -20,7 +20,7 @@ use Rattle.laws.proofs.Each.{at-all, then-all, then-any}
 use Rattle.rules.specs.Exact.{Few}
 use Rattle.laws.specs.DefinitionRuns.{impl-function-words, implementation-words, GoodMessage, GoodTrait, GoodImpl}
 use Rattle.laws.specs.GoodSchema.{most-words, GoodDefinition, GoodSchema}
-use Rattle.rules.proofs.Typed.{TypedFunction, TypedSignature}
+use Rattle.rules.specs.Typed.{TypedFunction, TypedSignature}
 use Rattle.laws_answers.proofs.Ends as ends
 use Rattle.laws_answers.proofs.Ends.{Ends, Short}
 use Rattle.laws_answers.proofs.Expected.{expected-ends}

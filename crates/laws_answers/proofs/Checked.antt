@@ -11,7 +11,7 @@ use Rattle.rules.specs.Signatures.{PortableSignature}
 use Rattle.rules.specs.CheckSignature.{check-params, check-signature}
 use Rattle.rules.specs.Good.{All, AllOption, Stored}
 use Rattle.laws.specs.DefinitionRuns.{GoodParam, GoodFunction}
-use Rattle.rules.proofs.Typed.{TypedParam, TypedSignature}
+use Rattle.rules.specs.Typed.{TypedParam, TypedSignature}
 use Rattle.laws_answers.proofs.Ends as ends
 use Rattle.laws_answers.proofs.Ends.{Ends, Short}
 use Rattle.laws_answers.proofs.Expected.{normalize-stored}

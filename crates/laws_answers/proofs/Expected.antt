@@ -17,7 +17,7 @@ use Rattle.laws.specs.DefinitionRuns.{GoodParam, GoodReturn, GoodTraitFunction,
 use Rattle.laws.specs.GoodSchema.{GoodSchema}
 use Rattle.laws.proofs.Counts.{Counts, done-counts, after-counts}
 use Rattle.laws.proofs.Substitution.{substitute-good}
-use Rattle.rules.proofs.Typed.{TypedParam, TypedSignature}
+use Rattle.rules.specs.Typed.{TypedParam, TypedSignature}
 use Rattle.laws_answers.proofs.Ends as ends
 use Rattle.laws_answers.proofs.Ends.{Ends, Short}
 use Rattle.laws_answers.specs.Bounds.{function-visits}

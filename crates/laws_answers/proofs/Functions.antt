@@ -18,7 +18,7 @@ use Rattle.rules.specs.Good.{All, AllOption, Stored}
 use Rattle.rules.specs.Exact.{optional, Few}
 use Rattle.laws.specs.Runs.{stored-statement-words, body-words, GoodBody, GoodStatement}
 use Rattle.laws.specs.DefinitionRuns.{typed-words, GoodParam, GoodMessage, GoodFunction, GoodImpl, impl-function-words}
-use Rattle.rules.proofs.Typed.{TypedParam, TypedSignature, TypedFunction}
+use Rattle.rules.specs.Typed.{TypedParam, TypedSignature, TypedFunction}
 use Rattle.laws_answers.proofs.Ends as ends
 use Rattle.laws_answers.proofs.Ends.{Ends, Short}
 use Rattle.laws_answers.specs.Bounds.{growth, signature-most}

@@ -13,7 +13,7 @@ use Rattle.rules.specs.Output.{each, value-words, statement-words}
 use Rattle.rules.specs.Good.{All, AllOption, Stored}
 use Rattle.rules.specs.Exact.{optional}
 use Rattle.laws.specs.Runs.{expr-words, stored-statement-words, GoodStatement}
-use Rattle.rules.proofs.Typed.{TypedNested, TypedStatement, TypedParam}
+use Rattle.rules.specs.Typed.{TypedNested, TypedStatement, TypedParam}
 use Rattle.laws_answers.proofs.Ends as ends
 use Rattle.laws_answers.proofs.Ends.{Ends, Short}
 use Rattle.laws_answers.specs.Bounds.{growth}

@@ -18,7 +18,7 @@ use Rattle.rules.specs.Output.{value-words, kind-words}
 use Rattle.rules.specs.Good.{All, AllOption, Stored}
 use Rattle.laws.proofs.Each.{or-else-all}
 use Rattle.laws.specs.Runs.{expr-words, nesting, GoodValue}
-use Rattle.rules.proofs.Typed.{typed-nesting, kind-nesting, TypedValue, TypedKind, TypedParam}
+use Rattle.rules.specs.Typed.{typed-nesting, kind-nesting, TypedValue, TypedKind, TypedParam}
 use Rattle.laws_answers.proofs.Ends as ends
 use Rattle.laws_answers.proofs.Ends.{Ends, Short}
 use Rattle.laws_answers.specs.Bounds.{growth}

@@ -1,1 +1,1 @@
-// Laws of the two calls on readable images stand in specs/; this crate has no code of its own.
+// Laws of the two calls on readable images are stated in specs/ and proved in proofs/; this crate has no code of its own.

@@ -3,17 +3,18 @@ use rules::ids::NameId;
 use type_words::HeldType;
 use type_words::MaybeType;
 ghost use Prim.Native.Nat.{ℕ, _+_, _<_, _≤_};
-ghost use mathlib.Core.List.{List, [], _∷_, _++_};
+ghost use mathlib.Core.List.{List};
 ghost use lib.ListN.{length};
 ghost use Rattle.rules.specs.Syntax.{ResolvedType, Param};
 ghost use Rattle.rules.specs.Infer.{find-last};
 ghost use Rattle.type_words.specs.Holds.{Holds, MaybeHolds};
-ghost use Rattle.locals.specs.Rows.{Row, Rows, Last};
+ghost use Rattle.locals.specs.Rows.{Row, Rows};
 ghost use Rattle.locals.specs.Adds.{Filled};
+ghost use Rattle.locals.specs.Contracts.{FindsLocal, AddsLocal};
 
 // The row of the last local of this name, or the count where there is none.
 pub fn find_local(names: &[u32], count: usize, x: NameId) -> usize
-    ensures { λ r. ⌜ ((rows : ℕ) (words lens : List ℕ) (ps : List (Param ResolvedType)) → Rows rows (now (names .entry)) words lens count 0 ps → Last rows (now (names .entry)) words lens count (x .0) ps r) ⌝ }
+    ensures { λ r. ⌜ FindsLocal (now (names .entry)) count x r ⌝ }
 {
     if names.len() < count {
         return count;
@@ -89,7 +90,7 @@ pub fn add_local(
     ty: HeldType,
 )
     requires { ⌜ (i < 64) × (64 ≤ length (now names)) × (4096 ≤ length (now words)) × (64 ≤ length (now lens)) ⌝ }
-    ensures { λ r. ⌜ ((rows : ℕ) (ps : List (Param ResolvedType)) (t : ResolvedType) → Rows rows (now (names .entry)) (now (words .entry)) (now (lens .entry)) i 0 ps → Holds rows ty t → Rows rows (now (names .exit)) (now (words .exit)) (now (lens .exit)) (i + 1) 0 (ps ++ (record { name = name .0; ty = t } ∷ []))) ⌝ }
+    ensures { λ r. ⌜ AddsLocal (now (names .entry)) (now (names .exit)) (now (words .entry)) (now (words .exit)) (now (lens .entry)) (now (lens .exit)) i name ty ⌝ }
 {
     let n = ty.count();
     names[i] = name.0;

@@ -13,7 +13,8 @@ ghost use Rattle.rules.specs.Infer.{find-last};
 ghost use Rattle.type_words.specs.Holds.{MaybeHolds};
 ghost use Rattle.image_layout.specs.Rows.{Inside};
 ghost use Rattle.image_layout.specs.Open.{pool-words};
-ghost use Rattle.message_fields.specs.Fields.{Fields, Place};
+ghost use Rattle.message_fields.specs.Fields.{Fields};
+ghost use Rattle.message_fields.specs.Contracts.{FindsField};
 
 // The place behind a word of a section.
 pub fn after(s: Section, at: usize) -> usize
@@ -32,7 +33,7 @@ fn pick(best: usize, place: usize, name: NameId, x: NameId) -> usize
 // Where the type of the last field of this name stands, or 0.
 pub fn find_field(image: &[u8], l: Layout, at: usize, x: NameId) -> usize
     requires { ⌜ Inside (now image) l ⌝ }
-    ensures { λ r. ⌜ ((ps : List (Param ResolvedType)) (n : ℕ) → Fields (l .names .rows) (pool-words (now (image .entry)) l) ps at n → Place (l .names .rows) (pool-words (now (image .entry)) l) r (find-last (x .0) ps)) ⌝ }
+    ensures { λ r. ⌜ FindsField (now (image .entry)) l at x r ⌝ }
 {
     let pool = l.pool;
     let count = image_words::section_word(image, pool, at);

@@ -25,7 +25,7 @@ module _ (names strings : ℕ) (ws : List ℕ) where
   abbrev pub Name-at : ℕ → ℕ → Type 0
   Name-at x at = Word ws at x × (x < names)
 
-  abbrev pub mutual
+  abbrev mutual
     pub Expr-at : Expr → ℕ → ℕ → Type 0
     Expr-at (Expr.literal c low high) at n = Expr-node ws at ExprKind.Literal × (getD ws at 0 ≡ c) × Wide-at ws low high (at + 1) × (n ≡ at + 1 + 1 + 1)
     Expr-at (Expr.bool b) at n = Expr-node ws at ExprKind.Flag × Word ws (at + 1) b × (b < 2) × (n ≡ at + 1 + 1)

@@ -3,14 +3,11 @@
 use answers::answer::Answer;
 use call_answer::Call;
 use libc::STDIN_FILENO;
-ghost use mathlib.Core.Path.{_≡_};
-ghost use Rattle.rules.specs.Projone.{lowest-implementation};
-ghost use Rattle.answers.specs.Answers.{answer-of};
-ghost use Rattle.call_answer.specs.Calls.{answer-for};
+ghost use Rattle.programs.specs.Contracts.{AnswersLowest};
 
 // The answer for the lowest implementation.
 fn answer(call: Call, image: &[u8], output: &mut [u8], detail: &mut [u8]) -> Answer
-    ensures { λ r. ⌜ answer-of r (now (output .exit)) (now (detail .exit)) ≡ answer-for call (now (image .entry)) (lowest-implementation (now (image .entry))) (now (output .entry)) (now (detail .entry)) ⌝ }
+    ensures { λ r. ⌜ AnswersLowest call (now (image .entry)) (now (output .entry)) (now (output .exit)) (now (detail .entry)) (now (detail .exit)) r ⌝ }
 {
     let number = impl_lowest::lowest_implementation(image);
     portable::answer(call, image, number, output, detail)

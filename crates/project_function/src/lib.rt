@@ -11,19 +11,10 @@ use project_statement::returns::project_return;
 use project_statement::returns::return_mismatch;
 use type_words::MaybeType;
 use write_words::put;
-ghost use mathlib.Core.Option.{Option};
-ghost use Prim.Native.Nat.{ℕ, _≤_};
+ghost use Prim.Native.Nat.{_≤_};
 ghost use lib.ListN.{length};
-ghost use Rattle.rules.specs.Syntax.{ResolvedType, FnBody};
-ghost use Rattle.type_words.specs.Holds.{MaybeHolds};
 ghost use Rattle.image_layout.specs.Rows.{Inside};
-ghost use Rattle.image_layout.specs.Open.{pool-words};
-ghost use Rattle.pool_bodies.specs.StatementAt.{Body-stands};
-ghost use Rattle.infer_context.specs.InContext.{AtContext};
-ghost use Rattle.project_outcome.specs.Outcomes.{Comes-to};
-ghost use Rattle.project_statement.specs.Made.{block-words};
-ghost use Rattle.project_function.specs.Made.{body-words-of};
-ghost use Rattle.project_function.specs.Blocks.{AtBlock};
+ghost use Rattle.project_function.specs.Contracts.{ProjectsStatements, ProjectsFunction};
 
 pub mod statement;
 
@@ -43,7 +34,7 @@ pub fn project_statements(
     to: usize,
 ) -> Outcome
     requires { ⌜ Inside (now image) l × (limit ≤ length (now out)) × (64 ≤ length (now names)) × (4096 ≤ length (now words)) × (64 ≤ length (now lens)) ⌝ }
-    ensures { λ r. ⌜ AtBlock (now (image .entry)) l (now (names .entry)) (now (words .entry)) (now (lens .entry)) ctx at count (λ c ss n. (o : Option ResolvedType) → MaybeHolds (l .names .rows) returns o → Comes-to (block-words o c ss) limit to (now (out .entry)) (now (out .exit)) r) ⌝ }
+    ensures { λ r. ⌜ ProjectsStatements (now (image .entry)) l at count ctx (now (names .entry)) (now (words .entry)) (now (lens .entry)) returns (now (out .entry)) (now (out .exit)) limit to r ⌝ }
 {
     let pool = l.pool;
     let function = ctx.function;
@@ -106,7 +97,7 @@ pub fn project_function(
     to: usize,
 ) -> Outcome
     requires { ⌜ Inside (now image) l × (limit ≤ length (now out)) × (64 ≤ length (now names)) × (4096 ≤ length (now words)) × (64 ≤ length (now lens)) × (ctx .count ≤ 32) ⌝ }
-    ensures { λ r. ⌜ AtContext (now (image .entry)) l (now (names .entry)) (now (words .entry)) (now (lens .entry)) ctx (λ c. (b : FnBody) (n : ℕ) → Body-stands (l .names .rows) (l .strings .rows) (pool-words (now (image .entry)) l) b at n → (o : Option ResolvedType) → MaybeHolds (l .names .rows) returns o → Comes-to (body-words-of c o b) limit to (now (out .entry)) (now (out .exit)) r) ⌝ }
+    ensures { λ r. ⌜ ProjectsFunction (now (image .entry)) l at ctx (now (names .entry)) (now (words .entry)) (now (lens .entry)) returns (now (out .entry)) (now (out .exit)) limit to r ⌝ }
 {
     let pool = l.pool;
     if image_words::section_word(image, pool, at) == 0 {

@@ -7,16 +7,10 @@ use project_let::Step;
 use project_let::project_let;
 use project_statement::assigns::ASSIGN;
 use project_statement::assigns::project_assign;
-ghost use Prim.Native.Nat.{ℕ, _+_, _≤_};
+ghost use Prim.Native.Nat.{_≤_};
 ghost use lib.ListN.{length};
-ghost use Rattle.rules.specs.Syntax.{Statement};
-ghost use Rattle.rules.specs.ReadBodies.{let-count};
 ghost use Rattle.image_layout.specs.Rows.{Inside};
-ghost use Rattle.image_layout.specs.Open.{pool-words};
-ghost use Rattle.pool_bodies.specs.StatementAt.{Statement-stands};
-ghost use Rattle.infer_context.specs.InContext.{AtContext};
-ghost use Rattle.project_function.specs.Made.{Passing};
-ghost use Rattle.project_let.specs.Agree.{Steps};
+ghost use Rattle.project_function.specs.Contracts.{ProjectsStatement};
 
 pub fn project_statement(
     image: &[u8],
@@ -31,7 +25,8 @@ pub fn project_statement(
     to: usize,
 ) -> Step
     requires { ⌜ Inside (now image) l × (limit ≤ length (now out)) × (64 ≤ length (now names)) × (4096 ≤ length (now words)) × (64 ≤ length (now lens)) ⌝ }
-    ensures { λ r. ⌜ AtContext (now (image .entry)) l (now (names .entry)) (now (words .entry)) (now (lens .entry)) ctx (λ c. (s : Statement) (n : ℕ) → Statement-stands (l .names .rows) (l .strings .rows) (pool-words (now (image .entry)) l) s at n → ctx .count + let-count s ≤ 64 → Passing c s (Steps (now (image .entry)) l (now (names .exit)) (now (words .exit)) (now (lens .exit)) ctx limit to (now (out .entry)) (now (out .exit)) r (let-count s))) ⌝ }
+    ensures { λ r. ⌜ ProjectsStatement (now (image .entry)) l at ctx (now (names .entry)) (now (names .exit)) (now (words .entry)) (now (words .exit))
+        (now (lens .entry)) (now (lens .exit)) (now (out .entry)) (now (out .exit)) limit to r ⌝ }
 {
     let pool = l.pool;
     let code = image_words::section_word(image, pool, at);

@@ -2,15 +2,10 @@
 use answers::answer::Outcome;
 use image_layout::Layout;
 use project_list::parts::Parts;
-ghost use lib.ListN.{length};
-ghost use Rattle.rules.specs.Syntax.{MessageDef};
 ghost use Rattle.image_layout.specs.Rows.{Cut};
-ghost use Rattle.answers.specs.Answers.{Comes};
-ghost use Rattle.project_outcome.specs.Outcomes.{Comes-to};
 ghost use Rattle.expected_functions.specs.Asked.{Asked};
-ghost use Rattle.project_impl.specs.Steps.{tested-words, found-words};
-ghost use Rattle.project_list.specs.Asked.{Behind};
-ghost use Rattle.project_impl.specs.Asked.{Wanted, Few};
+ghost use Rattle.project_impl.specs.Asked.{Wanted};
+ghost use Rattle.project_impl.specs.Contracts.{ProjectsTested, ProjectsFound};
 
 // 9, then 10, then each function: of the trait at `start` with the type arguments at `types`, whose signatures are accepted.
 // One walk finds the places of the functions, for all three.
@@ -23,7 +18,7 @@ fn project_tested(
     out: &mut [u8],
 ) -> Outcome
     requires { ⌜ Cut (now image) l × Wanted (now image) l start types ⌝ }
-    ensures { λ r. ⌜ ((w : Wanted (now (image .entry)) l start types) (message : MessageDef) → Behind (now (image .entry)) l (w .asked .impl) message (w .asked .types-end) (parts .fields) (parts .target) → Comes-to (tested-words (w .asked .impl) message (w .signatures)) (length (now (out .entry))) 0 (now (out .entry)) (now (out .exit)) r) ⌝ }
+    ensures { λ r. ⌜ ProjectsTested (now (image .entry)) l start types parts (now (out .entry)) (now (out .exit)) r ⌝ }
 {
     let pool = l.pool;
     let n = image_words::section_word(image, pool, start + 1) as usize;
@@ -57,7 +52,7 @@ pub fn project_found(
     out: &mut [u8],
 ) -> Outcome
     requires { ⌜ Cut (now image) l × Asked (now image) l start types ⌝ }
-    ensures { λ r. ⌜ ((a : Asked (now (image .entry)) l start types) (message : MessageDef) → Behind (now (image .entry)) l (a .impl) message (a .types-end) fields target → Few (found-words (a .impl) message (a .schema) (a .trait)) → Comes (found-words (a .impl) message (a .schema) (a .trait)) (now (out .entry)) (now (out .exit)) r) ⌝ }
+    ensures { λ r. ⌜ ProjectsFound (now (image .entry)) l start types fields target (now (out .entry)) (now (out .exit)) r ⌝ }
 {
     let e = expected_functions::expected_functions(image, l, start, types, &mut out[..0]);
     if !e.ok {

@@ -4,17 +4,15 @@ use answers::refusal::Refusal;
 use image_layout::Layout;
 use impl_trait::Subject;
 ghost use Rattle.image_layout.specs.Rows.{Cut};
-ghost use Rattle.answers.specs.Answers.{Comes};
 ghost use Rattle.impl_trait.specs.Subjects.{About};
-ghost use Rattle.project_impl.specs.Steps.{projected-words};
-ghost use Rattle.project_impl.specs.Asked.{Few};
+ghost use Rattle.project_impl.specs.Contracts.{Projects};
 
 pub mod found;
 
 // The functions' words, as far as they fit. 5, then what the trait's functions come to.
 pub fn project(image: &[u8], l: Layout, f: Subject, out: &mut [u8]) -> Outcome
     requires { ⌜ Cut (now image) l × About (now image) l f ⌝ }
-    ensures { λ r. ⌜ ((a : About (now (image .entry)) l f) → Few (projected-words (a .schema) (a .impl) (a .trait)) → Comes (projected-words (a .schema) (a .impl) (a .trait)) (now (out .entry)) (now (out .exit)) r) ⌝ }
+    ensures { λ r. ⌜ Projects (now (image .entry)) l f (now (out .entry)) (now (out .exit)) r ⌝ }
 {
     let target = f.target;
     let m = impl_functions::message::target_message(image, l, target);

@@ -7,18 +7,10 @@ use infer_context::Context;
 use rules::ids::NameId;
 use type_words::HeldType;
 use write_words::put;
-ghost use mathlib.Core.Option.{Option};
-ghost use Prim.Native.Nat.{ℕ, _<_, _≤_};
+ghost use Prim.Native.Nat.{_<_, _≤_};
 ghost use lib.ListN.{length};
-ghost use Rattle.rules.specs.Syntax.{ResolvedType, Expr, Statement};
 ghost use Rattle.image_layout.specs.Rows.{Inside};
-ghost use Rattle.image_layout.specs.Open.{pool-words};
-ghost use Rattle.pool_bodies.specs.StatementAt.{Statement-stands};
-ghost use Rattle.infer_context.specs.Stood.{AtExpr};
-ghost use Rattle.infer_context.specs.InContext.{AtContext};
-ghost use Rattle.write_expr.specs.Writes.{WritesOf};
-ghost use Rattle.project_let.specs.Made.{let-words, made-let};
-ghost use Rattle.project_let.specs.Agree.{Steps};
+ghost use Rattle.project_let.specs.Contracts.{WritesLet, ProjectsLet};
 
 mod written;
 
@@ -53,7 +45,7 @@ fn write_let(
     to: usize,
 ) -> usize
     requires { ⌜ Inside (now image) l × (limit ≤ length (now out)) ⌝ }
-    ensures { λ r. ⌜ AtContext (now (image .entry)) l (now (names .entry)) (now (words .entry)) (now (lens .entry)) ctx (λ c. AtExpr (now (image .entry)) l 32 at (λ e n. WritesOf (now (image .entry)) l (now (names .entry)) (now (words .entry)) (now (lens .entry)) ctx at 32 ty limit to (now (out .entry)) r (now (out .exit)) (let-words (name .0)) c e)) ⌝ }
+    ensures { λ r. ⌜ WritesLet (now (image .entry)) l ctx (now (names .entry)) (now (words .entry)) (now (lens .entry)) at name ty (now (out .entry)) (now (out .exit)) limit to r ⌝ }
 {
     let a = put(out, limit, to, LET);
     let b = put(out, limit, a, name.0);
@@ -88,7 +80,8 @@ pub fn project_let(
     to: usize,
 ) -> Step
     requires { ⌜ Inside (now image) l × (limit ≤ length (now out)) × (64 ≤ length (now names)) × (4096 ≤ length (now words)) × (64 ≤ length (now lens)) ⌝ }
-    ensures { λ r. ⌜ AtContext (now (image .entry)) l (now (names .entry)) (now (words .entry)) (now (lens .entry)) ctx (λ c. (x : ℕ) (t : Option ResolvedType) (e : Expr) (n : ℕ) → Statement-stands (l .names .rows) (l .strings .rows) (pool-words (now (image .entry)) l) (Statement.let-local x t e) at n → ctx .count < 64 → Steps (now (image .entry)) l (now (names .exit)) (now (words .exit)) (now (lens .exit)) ctx limit to (now (out .entry)) (now (out .exit)) r 1 (made-let c x t e)) ⌝ }
+    ensures { λ r. ⌜ ProjectsLet (now (image .entry)) l at ctx (now (names .entry)) (now (names .exit)) (now (words .entry)) (now (words .exit))
+        (now (lens .entry)) (now (lens .exit)) (now (out .entry)) (now (out .exit)) limit to r ⌝ }
 {
     let count = ctx.count;
     let function = ctx.function;

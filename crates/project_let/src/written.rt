@@ -2,15 +2,8 @@
 use image_layout::Layout;
 use message_fields::after;
 use type_words::MaybeType;
-ghost use mathlib.Core.Path.{_≡_};
-ghost use mathlib.Core.Option.{Option};
-ghost use Prim.Native.Nat.{ℕ};
-ghost use Rattle.rules.specs.Syntax.{ResolvedType};
-ghost use Rattle.type_words.specs.Holds.{MaybeHolds};
 ghost use Rattle.image_layout.specs.Rows.{Inside};
-ghost use Rattle.image_layout.specs.Open.{pool-words};
-ghost use Rattle.image_words.specs.Gives.{Maybe-at};
-ghost use Rattle.pool_types.specs.TypeAt.{Type-stands};
+ghost use Rattle.project_let.specs.Contracts.{TellsWrittenType};
 
 // The type written on a Let, or none, and the place behind it.
 pub struct Wanted {
@@ -20,7 +13,7 @@ pub struct Wanted {
 
 pub fn written_type(image: &[u8], l: Layout, at: usize) -> Wanted
     requires { ⌜ Inside (now image) l ⌝ }
-    ensures { λ r. ⌜ ((t : Option ResolvedType) (n : ℕ) → Maybe-at (pool-words (now (image .entry)) l) (Type-stands (l .names .rows) (pool-words (now (image .entry)) l)) t at n → MaybeHolds (l .names .rows) (r .ty) t × (r .next ≡ n)) ⌝ }
+    ensures { λ r. ⌜ TellsWrittenType (now (image .entry)) l at r ⌝ }
 {
     let pool = l.pool;
     let next = after(pool, at);

@@ -4,11 +4,9 @@ use answers::answer::Outcome;
 use image_layout::Layout;
 ghost use Prim.Native.Nat.{_≤_};
 ghost use lib.ListN.{length};
-ghost use Rattle.rules.specs.Syntax.{MessageDef, ImplDef};
 ghost use Rattle.image_layout.specs.Rows.{Cut};
-ghost use Rattle.project_outcome.specs.Outcomes.{Comes-to};
-ghost use Rattle.project_list.specs.Steps.{list-words};
-ghost use Rattle.project_list.specs.Asked.{Stand, All};
+ghost use Rattle.project_list.specs.Asked.{All};
+ghost use Rattle.project_list.specs.Contracts.{ProjectsList};
 
 // Their count, and each one of the trait functions at `at`; the implementation's functions stand at these places.
 pub fn project_list(
@@ -23,7 +21,7 @@ pub fn project_list(
     to: usize,
 ) -> Outcome
     requires { ⌜ Cut (now image) l × All (now image) l (now params) at × (limit ≤ length (now out)) ⌝ }
-    ensures { λ r. ⌜ ((h : All (now (image .entry)) l (now (params .entry)) at) (impl : ImplDef) (message : MessageDef) → Stand (now (image .entry)) l (now (places .entry)) parts impl message → Comes-to (list-words impl message (h .signatures)) limit to (now (out .entry)) (now (out .exit)) r) ⌝ }
+    ensures { λ r. ⌜ ProjectsList (now (image .entry)) l at (now (params .entry)) (now (places .entry)) parts (now (out .entry)) (now (out .exit)) limit to r ⌝ }
 {
     let pool = l.pool;
     let count = image_words::section_word(image, pool, at);

@@ -1,2 +1,3 @@
 pub mod Made
 pub mod Targets
+pub mod Contracts

@@ -10,17 +10,12 @@ use rules::ids::NameId;
 use write_words::put;
 ghost use Prim.Native.Nat.{ℕ, _≤_};
 ghost use lib.ListN.{length};
-ghost use Rattle.rules.specs.Syntax.{Expr, Statement};
 ghost use Rattle.rules.specs.Infer.{place};
 ghost use Rattle.rules.specs.Bodies.{assigned-field};
 ghost use Rattle.image_layout.specs.Rows.{Inside};
-ghost use Rattle.image_layout.specs.Open.{pool-words};
-ghost use Rattle.pool_bodies.specs.StatementAt.{Statement-stands};
 ghost use Rattle.infer_context.specs.Stood.{AtExpr};
-ghost use Rattle.infer_context.specs.InContext.{AtContext};
-ghost use Rattle.project_outcome.specs.Outcomes.{Comes-to};
-ghost use Rattle.project_statement.specs.Made.{assign-words};
 ghost use Rattle.project_statement.specs.Targets.{Field-agrees};
+ghost use Rattle.project_statement.specs.Contracts.{ProjectsAssign};
 
 pub struct Assigned {
     pub ok: bool,
@@ -67,7 +62,7 @@ pub fn project_assign(
     to: usize,
 ) -> Outcome
     requires { ⌜ Inside (now image) l × (limit ≤ length (now out)) ⌝ }
-    ensures { λ r. ⌜ AtContext (now (image .entry)) l (now (names .entry)) (now (words .entry)) (now (lens .entry)) ctx (λ c. (t e : Expr) (n : ℕ) → Statement-stands (l .names .rows) (l .strings .rows) (pool-words (now (image .entry)) l) (Statement.assign t e) at n → Comes-to (assign-words c t e) limit to (now (out .entry)) (now (out .exit)) r) ⌝ }
+    ensures { λ r. ⌜ ProjectsAssign (now (image .entry)) l at ctx (now (names .entry)) (now (words .entry)) (now (lens .entry)) (now (out .entry)) (now (out .exit)) limit to r ⌝ }
 {
     let pool = l.pool;
     let function = ctx.function;

@@ -9,23 +9,13 @@ use type_words::MaybeType;
 use write_words::put;
 ghost use mathlib.Core.Path.{_≡_};
 ghost use mathlib.Core.Bool.{false};
-ghost use mathlib.Core.List.{List, [], _∷_};
-ghost use mathlib.Core.Option.{Option, none, some};
-ghost use Prim.Native.Nat.{ℕ, _≤_};
+ghost use mathlib.Core.List.{[], _∷_};
+ghost use Prim.Native.Nat.{_≤_};
 ghost use lib.ListN.{length};
-ghost use Rattle.rules.specs.Syntax.{ResolvedType, Expr, Statement};
-ghost use Rattle.rules.specs.Infer.{FunctionContext};
 ghost use Rattle.rules.specs.Refusal.{with-detail};
-ghost use Rattle.rules.specs.Bodies.{is-empty};
 ghost use Rattle.answers.specs.Refusals.{refusal-of};
-ghost use Rattle.type_words.specs.Holds.{MaybeHolds};
 ghost use Rattle.image_layout.specs.Rows.{Inside};
-ghost use Rattle.image_layout.specs.Open.{pool-words};
-ghost use Rattle.pool_bodies.specs.StatementAt.{Statement-stands};
-ghost use Rattle.infer_context.specs.Stood.{AtExpr};
-ghost use Rattle.infer_context.specs.InContext.{AtContext};
-ghost use Rattle.project_outcome.specs.Outcomes.{Comes-to};
-ghost use Rattle.project_statement.specs.Made.{block-words};
+ghost use Rattle.project_statement.specs.Contracts.{ReturnsNothing, ReturnsValue, ProjectsReturn};
 
 // Its code.
 pub const RETURN: u32 = 2;
@@ -50,7 +40,7 @@ fn return_nothing(
     to: usize,
 ) -> Outcome
     requires { ⌜ limit ≤ length (now out) ⌝ }
-    ensures { λ r. ⌜ ((c : FunctionContext) → function .0 ≡ c .function → (rows : ℕ) (o : Option ResolvedType) → MaybeHolds rows returns o → (ss : List Statement) → is-empty ss ≡ last → Comes-to (block-words o c (Statement.return none ∷ ss)) limit to (now (out .entry)) (now (out .exit)) r) ⌝ }
+    ensures { λ r. ⌜ ReturnsNothing function returns last (now (out .entry)) (now (out .exit)) limit to r ⌝ }
 {
     if returns.some {
         return return_mismatch(function, 1);
@@ -79,7 +69,7 @@ fn return_value(
     to: usize,
 ) -> Outcome
     requires { ⌜ Inside (now image) l × (limit ≤ length (now out)) ⌝ }
-    ensures { λ r. ⌜ AtContext (now (image .entry)) l (now (names .entry)) (now (words .entry)) (now (lens .entry)) ctx (λ c. AtExpr (now (image .entry)) l 32 at (λ e n. (o : Option ResolvedType) → MaybeHolds (l .names .rows) returns o → (ss : List Statement) → is-empty ss ≡ last → Comes-to (block-words o c (Statement.return (some e) ∷ ss)) limit to (now (out .entry)) (now (out .exit)) r)) ⌝ }
+    ensures { λ r. ⌜ ReturnsValue (now (image .entry)) l at ctx (now (names .entry)) (now (words .entry)) (now (lens .entry)) returns last (now (out .entry)) (now (out .exit)) limit to r ⌝ }
 {
     let function = ctx.function;
     if !returns.some {
@@ -126,7 +116,7 @@ pub fn project_return(
     to: usize,
 ) -> Outcome
     requires { ⌜ Inside (now image) l × (limit ≤ length (now out)) ⌝ }
-    ensures { λ r. ⌜ AtContext (now (image .entry)) l (now (names .entry)) (now (words .entry)) (now (lens .entry)) ctx (λ c. (v : Option Expr) (n : ℕ) → Statement-stands (l .names .rows) (l .strings .rows) (pool-words (now (image .entry)) l) (Statement.return v) at n → (o : Option ResolvedType) → MaybeHolds (l .names .rows) returns o → (ss : List Statement) → is-empty ss ≡ last → Comes-to (block-words o c (Statement.return v ∷ ss)) limit to (now (out .entry)) (now (out .exit)) r) ⌝ }
+    ensures { λ r. ⌜ ProjectsReturn (now (image .entry)) l at ctx (now (names .entry)) (now (words .entry)) (now (lens .entry)) returns last (now (out .entry)) (now (out .exit)) limit to r ⌝ }
 {
     let flag = infer_context::operand(image, l, at);
     if flag == 0 {

@@ -3,16 +3,10 @@ use answers::answer::Outcome;
 use image_layout::Layout;
 use infer_context::Context;
 use type_words::MaybeType;
-ghost use mathlib.Core.Option.{Option};
 ghost use Prim.Native.Nat.{_≤_};
 ghost use lib.ListN.{length};
-ghost use Rattle.rules.specs.Syntax.{ResolvedType};
-ghost use Rattle.type_words.specs.Holds.{MaybeHolds};
 ghost use Rattle.image_layout.specs.Rows.{Inside};
-ghost use Rattle.infer_context.specs.Stood.{AtExpr};
-ghost use Rattle.infer_context.specs.InContext.{AtContext};
-ghost use Rattle.project_outcome.specs.Outcomes.{Comes-to};
-ghost use Rattle.project_statement.specs.Made.{value-of};
+ghost use Rattle.project_statement.specs.Contracts.{ProjectsValue};
 
 // How deep an expression may nest.
 pub const NESTING: u32 = 32;
@@ -33,7 +27,7 @@ pub fn project_value(
     to: usize,
 ) -> Outcome
     requires { ⌜ Inside (now image) l × (limit ≤ length (now out)) ⌝ }
-    ensures { λ r. ⌜ AtContext (now (image .entry)) l (now (names .entry)) (now (words .entry)) (now (lens .entry)) ctx (λ c. AtExpr (now (image .entry)) l 32 at (λ e n. (o : Option ResolvedType) → MaybeHolds (l .names .rows) expected o → Comes-to (value-of c e o context) limit to (now (out .entry)) (now (out .exit)) r)) ⌝ }
+    ensures { λ r. ⌜ ProjectsValue (now (image .entry)) l ctx (now (names .entry)) (now (words .entry)) (now (lens .entry)) at expected context (now (out .entry)) (now (out .exit)) limit to r ⌝ }
 {
     let r = infer_expr::infer_expr(
         image,

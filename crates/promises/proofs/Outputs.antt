@@ -17,7 +17,7 @@ use Rattle.laws.proofs.Each.{at-all, then-all}
 use Rattle.rules.specs.Exact.{Few}
 use Rattle.laws.specs.GoodSchema.{GoodDefinition, GoodSchema}
 use Rattle.laws.proofs.Schema.{readable-good}
-use Rattle.rules.proofs.Typed.{TypedFunction}
+use Rattle.rules.specs.Typed.{TypedFunction}
 use Rattle.laws.proofs.MoreNames.{functions-prefix-free}
 use Rattle.laws_answers.proofs.Calls.{Impl, project-ends}
 use Rattle.promises.specs.Projects.{Bytes, Projects}

@@ -21,7 +21,7 @@ use Rattle.laws.proofs.Each.{at-all, then-all, then-any}
 use Rattle.rules.specs.Exact.{optional, Few}
 use Rattle.laws.specs.Runs.{stored-statement-words, body-words}
 use Rattle.laws.specs.DefinitionRuns.{typed-words, message-words, trait-words, impl-function-words, implementation-words}
-use Rattle.rules.proofs.Typed.{TypedFunction}
+use Rattle.rules.specs.Typed.{TypedFunction}
 use Rattle.laws_answers.proofs.Ends as ends
 use Rattle.laws_answers.proofs.Ends.{Ends, Any}
 use Rattle.laws_answers.proofs.Erased.{any-ends}

@@ -1,1 +1,1 @@
-// What the rules promise of accepted projections stands in specs/, its proofs in proofs/; this crate has no code of its own.
+// What the rules promise of accepted projections is stated in specs/ and proved in proofs/; this crate has no code of its own.

@@ -11,7 +11,8 @@ ghost use lib.ListN.{length};
 ghost use Rattle.answers.specs.Answers.{answer-of};
 ghost use Rattle.call_answer.specs.Calls.{answer-for};
 ghost use Rattle.replay_cases.specs.Cases.{Askable};
-ghost use Rattle.replay.specs.Replayed.{which-call, part, stored-fields, judged, compared, agrees};
+ghost use Rattle.replay.specs.Replayed.{which-call, stored-fields, compared, agrees};
+ghost use Rattle.replay.specs.Contracts.{Judges};
 
 // The calls as the file names them.
 pub const PROJECT_IMPL: u32 = 0;
@@ -68,7 +69,7 @@ fn answer(call: u32, image: &[u8], row: TypeId, output: &mut [u8], detail: &mut 
 // Asks with the two lent buffers.
 fn ask(file: &[u8], c: Case, output: &mut [u8], detail: &mut [u8]) -> Compared
     requires { ⌜ (c .fields ≤ length (now file)) × (length (now output) ≤ 65536) × (length (now detail) ≤ 1024) ⌝ }
-    ensures { λ r. ⌜ r ≡ judged (now (file .entry)) c (answer-for (which-call (c .call)) (part (now (file .entry)) (c .image)) (c .row .0) (now (output .entry)) (now (detail .entry))) (length (now (output .entry)) + length (now (detail .entry))) ⌝ }
+    ensures { λ r. ⌜ Judges (now (file .entry)) c (now (output .entry)) (now (detail .entry)) r ⌝ }
 {
     let image = replay_cases::case::bytes(file, c.image);
     let a = answer(c.call, image, c.row, output, detail);

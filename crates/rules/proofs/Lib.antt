@@ -1,9 +1,9 @@
 pub mod Edges
 pub mod Clash
+pub mod Depth
 pub mod ReadBack
 pub mod Gives
 pub mod Exact
 pub mod Codes
 pub mod Types
-pub mod Typed
 pub mod TypedRuns

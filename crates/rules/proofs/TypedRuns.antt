@@ -23,7 +23,7 @@ use Rattle.rules.proofs.Exact as exact
 use Rattle.rules.proofs.Exact.{maybe-exact, few-exact}
 use Rattle.rules.specs.Good.{Stored}
 use Rattle.rules.proofs.Types.{type-exact, wide-then, wide-gives}
-use Rattle.rules.proofs.Typed.{typed-nesting, kind-nesting, TypedValue, TypedKind, TypedNested, TypedStatement, TypedParam, TypedSignature, TypedFunction, kind-node, value-tree, typed-statement-node, typed-statement, typed-param, typed-signature, typed-function}
+use Rattle.rules.specs.Typed.{typed-nesting, kind-nesting, TypedValue, TypedKind, TypedNested, TypedStatement, TypedParam, TypedSignature, TypedFunction, kind-node, value-tree, typed-statement-node, typed-statement, typed-param, typed-signature, typed-function}
 
 module _ (names : ℕ) where
   at-kind : (f c : ℕ) (k : ExprKind) {t : ResolvedType} {ws : List ℕ} {x : PortableExprKind} → Stored names t → expr-kind c ≡ k

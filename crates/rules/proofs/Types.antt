@@ -15,7 +15,8 @@ use Rattle.rules.specs.ReadTypes.{sub-byte, wide, bits-inline, type-node
 use Rattle.rules.specs.Output.{each, listed}
 use Rattle.rules.specs.declared.kinds.TypeKind.{TypeKind}
 use Rattle.rules.proofs.Clash.{clash}
-use Rattle.rules.specs.Good.{Below, Good, depth, Stored}
+use Rattle.rules.specs.Good.{Below, Good, Stored}
+use Rattle.rules.proofs.Depth.{depth}
 use Rattle.rules.proofs.Codes.{TypeCode, type-code}
 use Rattle.rules.specs.Exact.{Reads, Gives, Exact, Run}
 use Rattle.rules.proofs.ReadBack.{give-reads, then-reads, last-reads, word-reads, rule-reads, below-then}

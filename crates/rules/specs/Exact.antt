@@ -5,7 +5,6 @@ use mathlib.Core.List.{List, [], _∷_, _++_}
 use mathlib.Core.Option.{Option, none, some}
 use lib.ListN.{length}
 use Rattle.rules.specs.Reader.{Rest, Reader}
-use Rattle.rules.specs.Output.{each}
 use Rattle.rules.specs.Good.{All}
 
 pub record Reads {A : Type 0} (r : Reader A) (ws : List ℕ) (a : A) : Type 0 where

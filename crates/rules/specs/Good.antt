@@ -1,5 +1,5 @@
 -- Good trees: those whose codes, counts and names are such as a reading gives.
-use Prim.Native.Nat.{ℕ, suc, _≤_, _<_, max}
+use Prim.Native.Nat.{ℕ, _≤_, _<_}
 use mathlib.Core.Path.{_≡_}
 use mathlib.Core.List.{List, [], _∷_}
 use mathlib.Core.Option.{Option, none, some}
@@ -49,25 +49,6 @@ GoodExpr names (TypeExpr.generic x a) = (x < names) × GoodExpr names a
 GoodExpr names (TypeExpr.one c t) = (type-kind c ≡ TypeKind.One) × GoodExpr names t
 GoodExpr names (TypeExpr.fixed low high t) = GoodExpr names t
 GoodExpr names (TypeExpr.two c t u) = (type-kind c ≡ TypeKind.Two) × GoodExpr names t × GoodExpr names u
-
--- how deep a tree is; a leaf is 1
-abbrev pub depth : ResolvedType → ℕ
-depth (ResolvedType.plain c) = 1
-depth (ResolvedType.sub s n) = 1
-depth (ResolvedType.bits ns) = 1
-depth (ResolvedType.named n) = 1
-depth (ResolvedType.one c t) = suc (depth t)
-depth (ResolvedType.fixed low high t) = suc (depth t)
-depth (ResolvedType.two c t u) = suc (max (depth t) (depth u))
-
-abbrev pub depth-expr : TypeExpr → ℕ
-depth-expr (TypeExpr.leaf t) = 1
-depth-expr (TypeExpr.named x) = 1
-depth-expr (TypeExpr.qualified s x) = 1
-depth-expr (TypeExpr.generic x a) = suc (depth-expr a)
-depth-expr (TypeExpr.one c t) = suc (depth-expr t)
-depth-expr (TypeExpr.fixed low high t) = suc (depth-expr t)
-depth-expr (TypeExpr.two c t u) = suc (max (depth-expr t) (depth-expr u))
 
 -- a type as the pool holds it
 pub record Stored (names : ℕ) (t : ResolvedType) : Type 0 where

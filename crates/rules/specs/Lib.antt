@@ -21,5 +21,6 @@ pub mod Answer
 pub mod Projone
 pub mod Edges
 pub mod Computed
-pub mod Exact
 pub mod Good
+pub mod Exact
+pub mod Typed

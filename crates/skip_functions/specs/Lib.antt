@@ -1,1 +1,2 @@
 pub mod ExprNodes
+pub mod Contracts

@@ -3,20 +3,17 @@ use image_words::Section;
 use rules::kinds::ExprKind;
 use skip_types::Node;
 ghost use mathlib.Core.Path.{_≡_};
-ghost use mathlib.Core.Option.{Option};
 ghost use Prim.Native.Nat.{ℕ, _+_, _<_};
-ghost use lib.ListN.{getD};
 ghost use Rattle.rules.specs.Syntax.{Expr};
 ghost use Rattle.image_words.specs.Verdict.{section-words, Lies};
-ghost use Rattle.image_words.specs.Gives.{Maybe-at};
-ghost use Rattle.pool_bodies.specs.ExprAt.{Expr-at, Expr-stands};
+ghost use Rattle.pool_bodies.specs.ExprAt.{Expr-at};
 ghost use Rattle.skip_types.specs.Pending.{Pending};
-ghost use Rattle.skip_functions.specs.ExprNodes.{expr-node};
+ghost use Rattle.skip_functions.specs.Contracts.{CountsNode, SkipsMaybeExpr};
 
 // The node of a kind at a place; a call's parts are its arguments.
 fn expr_node(image: &[u8], pool: Section, at: usize, k: ExprKind) -> Node
     requires { ⌜ Lies (now image) pool × (at < pool .len) ⌝ }
-    ensures { λ r. ⌜ (r ≡ expr-node k (getD (section-words (now (image .entry)) pool) (at + 2) 0) (getD (section-words (now (image .entry)) pool) (at + 3) 0)) × (0 < r .words) × (r .words < 5) × (r .parts < 4294967297) ⌝ }
+    ensures { λ r. ⌜ CountsNode (now (image .entry)) pool at k r ⌝ }
 {
     match k {
         ExprKind::Literal => Node { words: 3, parts: 0 },
@@ -72,7 +69,7 @@ pub fn skip_expr(image: &[u8], pool: Section, at: usize) -> usize
 // The place behind 0, or 1 and an expression.
 pub fn skip_maybe_expr(image: &[u8], pool: Section, at: usize) -> usize
     requires { ⌜ Lies (now image) pool ⌝ }
-    ensures { λ r. ⌜ ((names strings : ℕ) (o : Option Expr) (n : ℕ) → Maybe-at (section-words (now (image .entry)) pool) (Expr-stands names strings (section-words (now (image .entry)) pool)) o at n → r ≡ n) ⌝ }
+    ensures { λ r. ⌜ SkipsMaybeExpr (now (image .entry)) pool at r ⌝ }
 {
     if pool.len <= at {
         return at;

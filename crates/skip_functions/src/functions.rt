@@ -1,16 +1,14 @@
 // Functions, an implementation's and a trait's.
 use image_words::Section;
 ghost use mathlib.Core.Path.{_≡_};
-ghost use mathlib.Core.List.{List};
 ghost use Prim.Native.Nat.{ℕ};
-ghost use Rattle.rules.specs.Syntax.{ResolvedType, TypeExpr, Param, ImplFnDef, TraitReturn, TraitFnDef};
+ghost use Rattle.rules.specs.Syntax.{ImplFnDef, TraitReturn, TraitFnDef};
 ghost use Rattle.image_words.specs.Verdict.{section-words, Lies};
-ghost use Rattle.image_words.specs.Gives.{Counted};
-ghost use Rattle.pool_types.specs.TypeAt.{Type-stands};
 ghost use Rattle.pool_types.specs.ParamAt.{Param-at};
-ghost use Rattle.pool_type_exprs.specs.TypeExprAt.{Type-expr-at, Type-expr-stands};
+ghost use Rattle.pool_type_exprs.specs.TypeExprAt.{Type-expr-at};
 ghost use Rattle.pool_definitions.specs.DefinitionAt.{Function-at, Trait-return-at, Trait-function-at};
 ghost use Rattle.skip_types.specs.Pending.{Pending};
+ghost use Rattle.skip_functions.specs.Contracts.{SkipsParams, SkipsExprParams};
 
 // The place behind so many names, each with a type expression.
 fn skip_named(image: &[u8], pool: Section, at: usize, count: u32) -> usize
@@ -32,8 +30,8 @@ fn skip_named(image: &[u8], pool: Section, at: usize, count: u32) -> usize
 // The place behind a count and so many parameters.
 pub fn skip_params(image: &[u8], pool: Section, at: usize) -> usize
     requires { ⌜ Lies (now image) pool ⌝ }
-    ensures resolved { λ r. ⌜ ((names most : ℕ) (ps : List (Param ResolvedType)) (n : ℕ) → Counted (section-words (now (image .entry)) pool) most (Param-at names (section-words (now (image .entry)) pool) (Type-stands names (section-words (now (image .entry)) pool))) ps at n → r ≡ n) ⌝ }
-    ensures expressions { λ r. ⌜ ((names most : ℕ) (ps : List (Param TypeExpr)) (n : ℕ) → Counted (section-words (now (image .entry)) pool) most (Param-at names (section-words (now (image .entry)) pool) (Type-expr-stands names (section-words (now (image .entry)) pool))) ps at n → r ≡ n) ⌝ }
+    ensures resolved { λ r. ⌜ SkipsParams (now (image .entry)) pool at r ⌝ }
+    ensures expressions { λ r. ⌜ SkipsExprParams (now (image .entry)) pool at r ⌝ }
 {
     if pool.len <= at {
         return at;

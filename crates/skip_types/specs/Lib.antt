@@ -1,2 +1,3 @@
 pub mod Pending
 pub mod TypeNodes
+pub mod Contracts

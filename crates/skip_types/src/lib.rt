@@ -2,16 +2,15 @@
 use image_words::Section;
 use rules::kinds::TypeKind;
 ghost use mathlib.Core.Path.{_≡_};
-ghost use mathlib.Core.Option.{Option};
 ghost use Prim.Native.Nat.{ℕ, _+_, _<_};
 ghost use lib.ListN.{getD};
 ghost use Rattle.rules.specs.Syntax.{ResolvedType, TypeExpr};
 ghost use Rattle.image_words.specs.Verdict.{section-words, Lies};
-ghost use Rattle.image_words.specs.Gives.{Maybe-at};
-ghost use Rattle.pool_types.specs.TypeAt.{Type-at, Type-stands};
+ghost use Rattle.pool_types.specs.TypeAt.{Type-at};
 ghost use Rattle.pool_type_exprs.specs.TypeExprAt.{Type-expr-at};
 ghost use Rattle.skip_types.specs.Pending.{Pending};
 ghost use Rattle.skip_types.specs.TypeNodes.{type-node};
+ghost use Rattle.skip_types.specs.Contracts.{SkipsMaybeType};
 
 // A node's own words, and the parts that stand behind them.
 pub struct Node {
@@ -72,7 +71,7 @@ pub fn skip_type(image: &[u8], pool: Section, at: usize) -> usize
 // The place behind 0, or 1 and a resolved type.
 pub fn skip_maybe_type(image: &[u8], pool: Section, at: usize) -> usize
     requires { ⌜ Lies (now image) pool ⌝ }
-    ensures { λ r. ⌜ ((names : ℕ) (o : Option ResolvedType) (n : ℕ) → Maybe-at (section-words (now (image .entry)) pool) (Type-stands names (section-words (now (image .entry)) pool)) o at n → r ≡ n) ⌝ }
+    ensures { λ r. ⌜ SkipsMaybeType (now (image .entry)) pool at r ⌝ }
 {
     if pool.len <= at {
         return at;

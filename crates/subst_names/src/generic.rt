@@ -5,12 +5,12 @@ use rules::kinds::DefinitionKind;
 ghost use Prim.Native.Nat.{_<_};
 ghost use mathlib.Core.Path.{_≡_};
 ghost use mathlib.Core.Bool.{false};
-ghost use Rattle.rules.specs.Syntax.{CompiledSchema, GenericAliasDef};
-ghost use Rattle.rules.specs.ReadDefinitions.{generic-alias};
+ghost use Rattle.rules.specs.Syntax.{CompiledSchema};
 ghost use Rattle.rules.specs.Substitute.{lookup-alias};
 ghost use Rattle.image_layout.specs.Rows.{Inside};
-ghost use Rattle.image_layout.specs.Open.{Open, Stored, pool-words};
-ghost use Rattle.subst_names.specs.Aliases.{is-generic, IsAlias, alias-of};
+ghost use Rattle.image_layout.specs.Open.{Open, pool-words};
+ghost use Rattle.subst_names.specs.Aliases.{is-generic, IsAlias};
+ghost use Rattle.subst_names.specs.Contracts.{TellsOneParameter};
 
 // Whether there is such an alias; its parameter, and where its target stands in the pool.
 pub struct Alias {
@@ -45,7 +45,7 @@ fn is_generic(k: DefinitionKind) -> bool
 // The alias that stands in the pool at `start`, if it has one parameter.
 fn one_parameter(image: &[u8], l: Layout, start: u32) -> Alias
     requires { ⌜ Inside (now image) l ⌝ }
-    ensures { λ r. ⌜ ((a : GenericAliasDef) → Stored (generic-alias (l .names .rows)) (pool-words (now (image .entry)) l) start a → IsAlias (l .names .rows) (pool-words (now (image .entry)) l) r (alias-of a)) ⌝ }
+    ensures { λ r. ⌜ TellsOneParameter (now (image .entry)) l start r ⌝ }
 {
     let pool = l.pool;
     let at = start as usize;

@@ -7,16 +7,15 @@ use type_words::HeldType;
 use type_words::MaybeType;
 ghost use Prim.Native.Nat.{_<_};
 ghost use mathlib.Core.Path.{_≡_};
-ghost use mathlib.Core.List.{List};
 ghost use mathlib.Core.Option.{Option};
 ghost use Rattle.rules.specs.Words.{NONE};
 ghost use Rattle.rules.specs.Options.{or, then};
-ghost use Rattle.rules.specs.Syntax.{ResolvedType, Param, CompiledSchema};
-ghost use Rattle.rules.specs.Substitute.{number, lookup, lookup-primitive-alias, lookup-qualified, named-or-poison, resolve-name};
+ghost use Rattle.rules.specs.Syntax.{ResolvedType, CompiledSchema};
+ghost use Rattle.rules.specs.Substitute.{number, lookup, lookup-primitive-alias};
 ghost use Rattle.image_layout.specs.Rows.{Inside, Cut};
 ghost use Rattle.image_layout.specs.Open.{Open, AliasStands, pool-words};
-ghost use Rattle.type_words.specs.Holds.{Holds, MaybeHolds};
-ghost use Rattle.subst_params.specs.Views.{Views};
+ghost use Rattle.type_words.specs.Holds.{MaybeHolds};
+ghost use Rattle.subst_names.specs.Contracts.{ResolvesName, ResolvesQualified};
 
 // The place of an alias that is not there.
 const NOWHERE: u32 = 4294967295;
@@ -71,7 +70,7 @@ pub fn lookup_primitive_alias(image: &[u8], l: Layout, x: NameId) -> MaybeType
 // The first equal type parameter's argument; else an alias to a primitive; else the definition or the Named alias; else poison.
 pub fn resolve_name(image: &[u8], l: Layout, params: &[u32], x: NameId) -> HeldType
     requires { ⌜ Inside (now image) l ⌝ }
-    ensures { λ r. ⌜ ((s : CompiledSchema) → Open (now (image .entry)) l s → (ps : List (Param ResolvedType)) → Views (l .names .rows) (now (params .entry)) 0 ps → x .0 < l .names .rows → Holds (l .names .rows) r (resolve-name s ps (x .0))) ⌝ }
+    ensures { λ r. ⌜ ResolvesName (now (image .entry)) l (now (params .entry)) x r ⌝ }
 {
     let a = subst_params::find_param(params, x);
     if a.some {
@@ -89,7 +88,7 @@ pub fn resolve_name(image: &[u8], l: Layout, params: &[u32], x: NameId) -> HeldT
 // The definition or the Named alias of the name with the text namespace, ".", name; else poison.
 pub fn resolve_qualified(image: &[u8], l: Layout, namespace: NameId, x: NameId) -> HeldType
     requires { ⌜ Cut (now image) l ⌝ }
-    ensures { λ r. ⌜ ((s : CompiledSchema) → Open (now (image .entry)) l s → namespace .0 < l .names .rows → x .0 < l .names .rows → Holds (l .names .rows) r (named-or-poison (lookup-qualified s (namespace .0) (x .0)))) ⌝ }
+    ensures { λ r. ⌜ ResolvesQualified (now (image .entry)) l namespace x r ⌝ }
 {
     let names = l.names;
     let words = names.words;

@@ -1,2 +1,3 @@
 pub mod Foretold
 pub mod Foretells
+pub mod Contracts

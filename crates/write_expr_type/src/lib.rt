@@ -7,17 +7,13 @@ use type_words::HeldType;
 use type_words::MaybeType;
 ghost use mathlib.Core.Option.{Option};
 ghost use Prim.Native.Nat.{ℕ};
-ghost use Rattle.rules.specs.Syntax.{ResolvedType, run};
+ghost use Rattle.rules.specs.Syntax.{ResolvedType};
 ghost use Rattle.rules.specs.Types.{VOID};
 ghost use Rattle.rules.specs.Options.{or};
-ghost use Rattle.rules.specs.Infer.{expression-hint};
-ghost use Rattle.type_words.specs.Runs.{Runs};
 ghost use Rattle.type_words.specs.Holds.{Holds, MaybeHolds};
 ghost use Rattle.image_layout.specs.Rows.{Inside};
-ghost use Rattle.infer_context.specs.Stood.{AtExpr};
-ghost use Rattle.infer_context.specs.InContext.{AtContext};
-ghost use Rattle.write_expr_type.specs.Foretold.{left-type};
 ghost use Rattle.write_expr_type.specs.Foretells.{Foretells, ForetellsBinary};
+ghost use Rattle.write_expr_type.specs.Contracts.{ForetellsPlace, TellsOperandType};
 
 // A place's type; Void for one that is refused.
 fn or_void(m: MaybeType) -> HeldType
@@ -41,7 +37,7 @@ fn foretell_place(
     at: usize,
 ) -> HeldType
     requires { ⌜ Inside (now image) l ⌝ }
-    ensures { λ r. ⌜ AtContext (now (image .entry)) l (now (names .entry)) (now (words .entry)) (now (lens .entry)) ctx (λ c. (nest : ℕ) → AtExpr (now (image .entry)) l nest at (λ e n. Holds (l .names .rows) r (or (expression-hint c e) VOID))) ⌝ }
+    ensures { λ r. ⌜ ForetellsPlace (now (image .entry)) l ctx (now (names .entry)) (now (words .entry)) (now (lens .entry)) at r ⌝ }
 {
     or_void(infer_context::expression_hint(image, l, ctx, names, words, lens, at))
 }
@@ -142,7 +138,7 @@ pub fn operand_type(
     ty: HeldType,
 ) -> HeldType
     requires { ⌜ Inside (now image) l ⌝ }
-    ensures { λ r. ⌜ AtContext (now (image .entry)) l (now (names .entry)) (now (words .entry)) (now (lens .entry)) ctx (λ c. AtExpr (now (image .entry)) l nest left (λ d m. AtExpr (now (image .entry)) l nest right (λ e n. (t : ResolvedType) → Runs ty (run t) → Runs r (run (left-type c op d e t))))) ⌝ }
+    ensures { λ r. ⌜ TellsOperandType (now (image .entry)) l ctx (now (names .entry)) (now (words .entry)) (now (lens .entry)) op left right nest ty r ⌝ }
 {
     let h = infer_context::binary_hint(
         image,
