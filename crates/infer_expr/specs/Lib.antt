@@ -1,2 +1,1 @@
 pub mod Infers
-pub mod Contracts

@@ -1,31 +1,18 @@
 // Expressions are typed by recursion while the allowed nesting falls.
 use image_layout::Layout;
 use infer_context::Context;
-use infer_leaves::infer_literal;
-use infer_leaves::infer_place;
+use infer_leaves::infer_leaf;
 use infer_result::inferred::Inferred;
-use rules::ids::NameId;
-use rules::ids::PrimitiveType;
 use rules::kinds::ExprKind;
 use type_words::HeldType;
 use type_words::MaybeType;
 ghost use Rattle.image_layout.specs.Rows.{Inside};
 ghost use Rattle.infer_expr.specs.Infers.{Infers, InfersBinary, InfersUnary};
-ghost use Rattle.infer_expr.specs.Contracts.{NamesMethod};
 
 // The contexts of an operand.
 const BINARY_EXPRESSION: u32 = 6;
 
 const UNARY_EXPRESSION: u32 = 7;
-
-// The method's name in a trait method's call.
-fn method_name(image: &[u8], l: Layout, at: usize) -> NameId
-    requires { ⌜ Inside (now image) l ⌝ }
-    ensures { λ r. ⌜ NamesMethod (now (image .entry)) l at r ⌝ }
-{
-    let pool = l.pool;
-    NameId(infer_context::operand(image, l, message_fields::after(pool, at)))
-}
 
 // The type of the expression at `at` under an expected type or none; a mismatch is refused in the caller's context.
 pub fn infer_expr(
@@ -48,58 +35,6 @@ pub fn infer_expr(
     }
     let k = infer_context::kind_at(image, l, at);
     match k {
-        ExprKind::Literal => infer_literal(image, l, at, expected, context),
-        ExprKind::Flag => infer_result::inferred::ended(
-            expected,
-            context,
-            HeldType::plain(PrimitiveType::BOOL),
-        ),
-        ExprKind::Text => infer_result::inferred::ended(
-            expected,
-            context,
-            HeldType::plain(HeldType::STRING),
-        ),
-        ExprKind::Local => infer_place(
-            image,
-            l,
-            ctx,
-            names,
-            words,
-            lens,
-            at,
-            expected,
-            context,
-            16,
-        ),
-        ExprKind::SelfRef => infer_place(
-            image,
-            l,
-            ctx,
-            names,
-            words,
-            lens,
-            at,
-            expected,
-            context,
-            16,
-        ),
-        ExprKind::FieldAccess => infer_place(
-            image,
-            l,
-            ctx,
-            names,
-            words,
-            lens,
-            at,
-            expected,
-            context,
-            17,
-        ),
-        ExprKind::Call => infer_result::inferred::refused(
-            13,
-            NameId(infer_context::operand(image, l, at)),
-        ),
-        ExprKind::TraitMethodCall => infer_result::inferred::refused(14, method_name(image, l, at)),
         ExprKind::Binary => infer_binary(
             image,
             l,
@@ -124,7 +59,7 @@ pub fn infer_expr(
             expected,
             context,
         ),
-        ExprKind::Unknown => infer_result::inferred::accepted(HeldType::empty()),
+        _ => infer_leaf(image, l, ctx, names, words, lens, at, expected, context),
     }
 }
 

@@ -1,3 +1,4 @@
 pub mod Placed
 pub mod Literals
 pub mod Plain
+pub mod Leaves

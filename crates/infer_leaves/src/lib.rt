@@ -2,8 +2,13 @@
 use image_layout::Layout;
 use infer_context::Context;
 use infer_result::inferred::Inferred;
+use infer_result::inferred::accepted;
+use infer_result::inferred::ended;
+use infer_result::inferred::refused;
+use infer_result::inferred::type_mismatch;
 use rules::ids::NameId;
 use rules::ids::PrimitiveType;
+use rules::kinds::ExprKind;
 use type_words::HeldType;
 use type_words::MaybeType;
 ghost use mathlib.Core.Path.{_≡_};
@@ -15,7 +20,7 @@ ghost use Rattle.type_tests.specs.Literals.{literal-type};
 ghost use Rattle.image_layout.specs.Rows.{Inside};
 ghost use Rattle.image_layout.specs.Open.{pool-words};
 ghost use Rattle.infer_context.specs.Stood.{Stood};
-ghost use Rattle.infer_leaves.specs.Contracts.{InfersLiteral, InfersPlace};
+ghost use Rattle.infer_leaves.specs.Contracts.{InfersLiteral, InfersPlace, InfersLeaf, NamesMethod};
 
 // The 64 bits of a literal.
 fn literal_bits(image: &[u8], l: Layout, at: usize) -> u64
@@ -55,13 +60,7 @@ pub fn literal_own(code: u32) -> HeldType
     HeldType::plain(PrimitiveType::F64)
 }
 
-pub fn infer_literal(
-    image: &[u8],
-    l: Layout,
-    at: usize,
-    expected: MaybeType,
-    context: u32,
-) -> Inferred
+fn infer_literal(image: &[u8], l: Layout, at: usize, expected: MaybeType, context: u32) -> Inferred
     requires { ⌜ Inside (now image) l ⌝ }
     ensures { λ r. ⌜ InfersLiteral (now (image .entry)) l at expected context r ⌝ }
 {
@@ -70,14 +69,14 @@ pub fn infer_literal(
     let m = literal_type(code, literal_bits(image, l, at), expected);
     if m.some {
         let ty = m.ty;
-        return infer_result::inferred::ended(expected, context, ty);
+        return ended(expected, context, ty);
     }
     let wanted = expected.ty;
-    infer_result::inferred::type_mismatch(code, wanted, literal_own(code))
+    type_mismatch(code, wanted, literal_own(code))
 }
 
 // A local, SelfRef or a field: the type that it has by itself, or a refusal with its name.
-pub fn infer_place(
+fn infer_place(
     image: &[u8],
     l: Layout,
     ctx: Context,
@@ -95,7 +94,66 @@ pub fn infer_place(
     let h = infer_context::expression_hint(image, l, ctx, names, words, lens, at);
     if h.some {
         let ty = h.ty;
-        return infer_result::inferred::ended(expected, context, ty);
+        return ended(expected, context, ty);
     }
-    infer_result::inferred::refused(number, NameId(infer_context::operand(image, l, at)))
+    refused(number, NameId(infer_context::operand(image, l, at)))
+}
+
+// The method's name in a trait method's call.
+fn method_name(image: &[u8], l: Layout, at: usize) -> NameId
+    requires { ⌜ Inside (now image) l ⌝ }
+    ensures { λ r. ⌜ NamesMethod (now (image .entry)) l at r ⌝ }
+{
+    let pool = l.pool;
+    NameId(infer_context::operand(image, l, message_fields::after(pool, at)))
+}
+
+// The type of an expression that is no operation, or its refusal; nothing is asked of the last arm.
+pub fn infer_leaf(
+    image: &[u8],
+    l: Layout,
+    ctx: Context,
+    names: &[u32],
+    words: &[u32],
+    lens: &[u32],
+    at: usize,
+    expected: MaybeType,
+    context: u32,
+) -> Inferred
+    requires { ⌜ Inside (now image) l ⌝ }
+    ensures { λ r. ⌜ InfersLeaf (now (image .entry)) l ctx (now (names .entry)) (now (words .entry)) (now (lens .entry)) at expected context r ⌝ }
+{
+    let k = infer_context::kind_at(image, l, at);
+    match k {
+        ExprKind::Literal => infer_literal(image, l, at, expected, context),
+        ExprKind::Flag => ended(expected, context, HeldType::plain(PrimitiveType::BOOL)),
+        ExprKind::Text => ended(expected, context, HeldType::plain(HeldType::STRING)),
+        ExprKind::Local | ExprKind::SelfRef => infer_place(
+            image,
+            l,
+            ctx,
+            names,
+            words,
+            lens,
+            at,
+            expected,
+            context,
+            16,
+        ),
+        ExprKind::FieldAccess => infer_place(
+            image,
+            l,
+            ctx,
+            names,
+            words,
+            lens,
+            at,
+            expected,
+            context,
+            17,
+        ),
+        ExprKind::Call => refused(13, NameId(infer_context::operand(image, l, at))),
+        ExprKind::TraitMethodCall => refused(14, method_name(image, l, at)),
+        ExprKind::Binary | ExprKind::Unary | ExprKind::Unknown => accepted(HeldType::empty()),
+    }
 }

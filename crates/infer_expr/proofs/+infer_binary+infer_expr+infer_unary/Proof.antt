@@ -5,17 +5,15 @@ use native.Mathlib.Omega.{arith}
 use mathlib.Core.Path.{_≡_, refl, sym, subst, _∙_}
 use denote.Ref.{now}
 use lib.ListN.{length}
-use lib.Dec.{lit<}
 use Rattle.rules.specs.Syntax.{Expr}
-use Rattle.rules.specs.Types.{BOOL, STRING}
 use Rattle.rules.specs.Infer.{infer-expr}
+use Rattle.rules.specs.declared.kinds.ExprKind.{ExprKind}
 use Rattle.image_layout.specs.Open.{pool-words}
 use Rattle.image_words.proofs.Sections.{length-section}
 use Rattle.infer_result.specs.Says.{Says}
 use Rattle.infer_context.proofs.Nodes.{deep, binary-word, unary-word}
 use Rattle.infer_context.proofs.Operands.{left-at, right-at, value-at}
-use Rattle.infer_leaves.proofs.Plain.{bool-held, string-held}
-use Rattle.infer_expr.proofs.Arms.{of-literal, of-flag, of-text, of-local, of-self-ref, of-field, of-call, of-method, of-binary, of-unary, of-unknown}
+use Rattle.infer_expr.proofs.Arms.{of-binary, of-unary, other-arm}
 use Rattle.infer_expr.proofs.Operations.{left-refused, right-refused, both-typed, value-refused, value-typed}
 use borrow.Fn.Kinds.{In}
 use borrow.Fn.PlainCycle.{Measures, is, falls, and}
@@ -28,17 +26,12 @@ use Rattle.infer_expr.proofs.+infer_binary+infer_expr+infer_unary.Lts-i
 use Rattle.infer_expr.proofs.infer_unary.Reads as infer-unary
 use Rattle.infer_expr.proofs.infer_unary.Kinds as infer-unary-kinds
 use Rattle.infer_expr.proofs.+infer_binary+infer_expr+infer_unary.Lts-infer_unary as infer-unary-lts
-use Rattle.infer_expr.proofs.method_name.Reads as method-name-reads
 use Rattle.type_words.proofs.HeldType.empty.Reads as empty-reads
-use Rattle.type_words.proofs.HeldType.plain.Reads as plain-reads
 use Rattle.type_words.proofs.MaybeType.some.Reads as some-reads
 use Rattle.infer_result.proofs.inferred.accepted.Reads as accepted-reads
-use Rattle.infer_result.proofs.inferred.ended.Reads as ended-reads
-use Rattle.infer_result.proofs.inferred.refused.Reads as refused-reads
 use Rattle.infer_result.proofs.operators.end_binary.Reads as end-binary-reads
 use Rattle.infer_result.proofs.operators.end_unary.Reads as end-unary-reads
-use Rattle.infer_leaves.proofs.infer_literal.Reads as infer-literal-reads
-use Rattle.infer_leaves.proofs.infer_place.Reads as infer-place-reads
+use Rattle.infer_leaves.proofs.infer_leaf.Reads as infer-leaf-reads
 use Rattle.infer_context.proofs.binary_hint.Reads as binary-hint-reads
 use Rattle.infer_context.proofs.first_part.Reads as first-part-reads
 use Rattle.infer_context.proofs.kind_at.Reads as kind-at-reads
@@ -90,7 +83,7 @@ infer-binary-calls t = (operand-reads.Asked, operand-reads.Learnt, first-part-re
 
 -- what infer-expr knows of the functions that it calls
 abbrev infer-expr-calls : ℕ → infer-expr-lts.Claims
-infer-expr-calls t = (empty-reads.Asked, empty-reads.Learnt, accepted-reads.Asked, accepted-reads.Learnt, kind-at-reads.Asked, kind-at-reads.Learnt, infer-literal-reads.Asked, infer-literal-reads.Learnt, plain-reads.Asked, plain-reads.Learnt, ended-reads.Asked, ended-reads.Learnt, infer-place-reads.Asked, infer-place-reads.Learnt, operand-reads.Asked, operand-reads.Learnt, refused-reads.Asked, refused-reads.Learnt, method-name-reads.Asked, method-name-reads.Learnt, infer-binary-below t, infer-binary.Post, infer-unary-below t, infer-unary.Post)
+infer-expr-calls t = (empty-reads.Asked, empty-reads.Learnt, accepted-reads.Asked, accepted-reads.Learnt, kind-at-reads.Asked, kind-at-reads.Learnt, infer-binary-below t, infer-binary.Post, infer-unary-below t, infer-unary.Post, infer-leaf-reads.Asked, infer-leaf-reads.Learnt)
 
 -- what infer-unary knows of the functions that it calls
 abbrev infer-unary-calls : ℕ → infer-unary-lts.Claims
@@ -140,45 +133,15 @@ pub +infer-binary+infer-expr+infer-unary-spec : {M : Type 1} → statement M
     (λ c. λ x i e n s o w. absurd (omega (arith, deep e, s .nested .deep, (c .before .before .if1 .taken))))
     (λ c κs. search needs)
     (λ c. search needs)
-    (λ c κs. search needs)
-    (λ c. search needs)
-    (λ c κs. search needs)
-    (λ c κs. search needs)
-    (λ c. search needs)
-    (λ c κs. search needs)
-    (λ c κs. search needs)
-    (λ c. search needs)
-    (λ c κs. search needs)
-    (λ c. search needs)
-    (λ c κs. search needs)
-    (λ c. search needs)
-    (λ c κs. search needs)
-    (λ c. search needs)
-    (λ c κs. search needs)
-    (λ c κs. search needs)
-    (λ c. search needs)
-    (λ c κs. search needs)
-    (λ c κs. search needs)
-    (λ c. search needs)
     (λ c. search needs)
     (λ c κs. search needs)
     (λ c. search needs)
     (λ c. search needs)
     (λ c κs. search needs)
-    (λ c. search needs)
     (λ c κs. search needs)
-    (λ c κs. search needs)
-    (λ c. λ x i e n s o w. of-literal x o _ _ (sym (c .before .before .before .kind-at .ensures) ∙ c .before .enum-told .given .1) (λ k low high s. c .infer-literal .ensures _ k low high n s o w x) e s)
-    (λ c. λ x i e n s o w. of-flag x o _ _ (sym (c .before .before .before .before .kind-at .ensures) ∙ c .before .before .enum-told2 .given .1) (λ k. c .ended .ensures _ o BOOL w (bool-held _ (c .before .plain .ensures)) x k) e s)
-    (λ c. λ x i e n s o w. of-text x o _ _ (sym (c .before .before .before .before .kind-at .ensures) ∙ c .before .before .enum-told3 .given .1) (λ k. c .ended2 .ensures _ o STRING w (string-held _ (c .before .plain2 .ensures)) x k) e s)
-    (λ c. λ x i e n s o w. of-local x o _ _ (sym (c .before .before .before .kind-at .ensures) ∙ c .before .enum-told4 .given .1) (λ d s k. c .infer-place .ensures x i _ d n s (lit< tt) (lit< tt) o w k) e s)
-    (λ c. λ x i e n s o w. of-self-ref x o _ _ (sym (c .before .before .before .kind-at .ensures) ∙ c .before .enum-told5 .given .1) (λ d s k. c .infer-place2 .ensures x i _ d n s (lit< tt) (lit< tt) o w k) e s)
-    (λ c. λ x i e n s o w. of-field x o _ _ (sym (c .before .before .before .kind-at .ensures) ∙ c .before .enum-told6 .given .1) (λ d s k. c .infer-place3 .ensures x i _ d n s (lit< tt) (lit< tt) o w k) e s)
-    (λ c. λ x i e n s o w. of-call x o _ _ (sym (c .before .before .before .before .kind-at .ensures) ∙ c .before .before .enum-told7 .given .1) _ (c .before .operand .ensures) (c .refused .ensures (lit< tt) (lit< tt) (c .before .before .before .before .before .before .before .before .before .before .args .l .names .rows) (x .function)) e s)
-    (λ c. λ x i e n s o w. of-method x o _ _ (sym (c .before .before .before .before .kind-at .ensures) ∙ c .before .before .enum-told8 .given .1) _ (c .before .method-name .ensures) (c .refused2 .ensures (lit< tt) (lit< tt) (c .before .before .before .before .before .before .before .before .before .before .args .l .names .rows) (x .function)) e s)
-    (λ c. λ x i e n s o w. of-binary x o _ _ (sym (c .before .before .before .kind-at .ensures) ∙ c .before .enum-told9 .given .1) (λ op d f s. c .infer-binary .ensures x i _ op d f n refl s o w) e s)
-    (λ c. λ x i e n s o w. of-unary x o _ _ (sym (c .before .before .before .kind-at .ensures) ∙ c .before .enum-told10 .given .1) (λ op f s. c .infer-unary .ensures x i _ op f n refl s o w) e s)
-    (λ c. λ x i e n s o w. of-unknown x o _ _ (sym (c .before .before .before .before .kind-at .ensures) ∙ c .before .before .enum-told11 .given .1) e s))
+    (λ c. λ x i e n s o w. of-binary x o _ _ (sym (c .before .before .before .kind-at .ensures) ∙ c .before .enum-told .given .1) (λ op d f s. c .infer-binary .ensures x i _ op d f n refl s o w) e s)
+    (λ c. λ x i e n s o w. of-unary x o _ _ (sym (c .before .before .before .kind-at .ensures) ∙ c .before .enum-told2 .given .1) (λ op f s. c .infer-unary .ensures x i _ op f n refl s o w) e s)
+    (λ c. λ x i e n s. c .infer-leaf .ensures (λ q. other-arm ExprKind.Binary tt (c .before .match .keys3) (c .before .before .kind-at .ensures ∙ q)) (λ q. other-arm ExprKind.Unary tt (c .before .match .keys3) (c .before .before .kind-at .ensures ∙ q)) x i _ e n s))
     (λ t. infer-unary-lts.spec (infer-unary-calls t) (infer-unary-at t) infer-unary.Post
     (λ c κs. search needs)
     (λ c κs. search needs)

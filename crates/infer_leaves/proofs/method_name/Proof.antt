@@ -1,4 +1,4 @@
--- `infer_expr::method_name` meets its contract. Assumes nothing.
+-- `infer_leaves::method_name` meets its contract. Assumes nothing.
 use borrow.Author.Needs.{needs}
 use native.Mathlib.Omega.{arith}
 use mathlib.Core.Path.{_≡_, ap, _∙_}
@@ -7,9 +7,9 @@ use denote.Ref.{now}
 use lib.ListN.{getD}
 use Rattle.image_layout.specs.Open.{pool-words}
 use Rattle.image_words.proofs.Sections.{length-section}
-use Rattle.infer_expr.proofs.Arms.{method-word}
-use Rattle.infer_expr.proofs.method_name.Statement.{statement}
-use Rattle.infer_expr.proofs.method_name.Tie as tie
+use Rattle.infer_leaves.proofs.Leaves.{method-word}
+use Rattle.infer_leaves.proofs.method_name.Statement.{statement}
+use Rattle.infer_leaves.proofs.method_name.Tie as tie
 
 pub method-name-spec : {M : Type 1} → statement M
 method-name-spec =
