@@ -1,4 +1,4 @@
--- Laws of what specs/Writes.antt defines.
+-- Laws: words written one behind the other into an output, as far as they fit it.
 use Prim.Native.Nat.{ℕ, _+_}
 use mathlib.Core.Path.{_≡_, refl, sym, ap, ap₂, subst, _∙_}
 use mathlib.Core.List.{List, [], _∷_, _++_}

@@ -1,4 +1,4 @@
--- What comes before a call.
+-- What a call does first: 1, 2, or the layout of a readable image.
 use Prim.Native.Nat.{ℕ, _<_, _≤_}
 use mathlib.Core.Path.{_≡_}
 use mathlib.Core.List.{List}

@@ -1,4 +1,4 @@
--- Laws of what specs/Details.antt defines.
+-- The detail words of a mismatch, added one behind the other.
 use Prim.Native.Nat.{ℕ, _+_, _<_, _≤_}
 use mathlib.Core.Path.{_≡_, refl, sym, ap, _∙_}
 use mathlib.Core.Bool.{true, false}

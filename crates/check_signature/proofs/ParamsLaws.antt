@@ -1,4 +1,4 @@
--- Laws of what specs/Params.antt defines.
+-- Parameters against the rows of the table, one by one.
 use Prim.Native.Nat.{ℕ, _+_, _<_, _≤_}
 use mathlib.Core.Path.{_≡_, refl, sym, ap, ap₂, subst, _∙_}
 use mathlib.Core.Bool.{true, false}

@@ -1,4 +1,4 @@
--- Laws of what specs/Whole.antt defines.
+-- A whole signature: the counts, the parameters, the returns.
 use Prim.Native.Nat.{ℕ, _+_, _<_, _≤_}
 use mathlib.Core.Path.{_≡_, sym, ap, ap₂, subst, _∙_}
 use mathlib.Core.Bool.{true, false}

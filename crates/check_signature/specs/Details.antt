@@ -1,4 +1,4 @@
--- The detail words of a mismatch, added one behind the other.
+-- The detail words of a parameter's type that differs.
 use Prim.Native.Nat.{ℕ}
 use mathlib.Core.List.{List, _∷_, _++_}
 use Rattle.rules.specs.Refusal as rules

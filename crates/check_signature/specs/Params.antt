@@ -1,4 +1,4 @@
--- Parameters against the rows of the table, one by one.
+-- One step of the check: a parameter, its name and then its type.
 use Prim.Native.Nat.{ℕ}
 use mathlib.Core.List.{[], _∷_}
 use lib.Dec.{eqb}

@@ -1,4 +1,4 @@
--- A whole signature: the counts, the parameters, the returns.
+-- The last step of the check: the returns.
 use Prim.Native.Nat.{ℕ}
 use mathlib.Core.List.{_∷_, _++_}
 use mathlib.Core.Option.{Option}

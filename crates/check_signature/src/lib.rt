@@ -56,13 +56,13 @@ pub fn check_signature(
     ensures { λ r. ⌜ ChecksSignature (now (image .entry)) l at name (now (names .entry)) (now (words .entry)) (now (lens .entry)) count returns r ⌝ }
 {
     let pool = l.pool;
-    let start = message_fields::after(pool, at);
+    let start = image_words::after(pool, at);
     let found = image_words::section_word(image, pool, start);
     let wanted = as_word(count);
     if found != wanted {
         return answers::answer::refused(crate::mismatch::wrong_word(name, 1, wanted, found));
     }
-    let place = message_fields::after(pool, start);
+    let place = image_words::after(pool, start);
     let r = crate::params::check_params(image, l, place, name, names, words, lens, count);
     if !r.ok {
         return r;

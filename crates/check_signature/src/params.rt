@@ -66,7 +66,7 @@ pub fn check_params(
     let mut next = at;
     while i < count {
         let found = NameId(image_words::section_word(image, pool, next));
-        let place = message_fields::after(pool, next);
+        let place = image_words::after(pool, next);
         let h = type_from_pool::hold_type(image, l, place);
         let actual = h.ty;
         let wanted = name_at(names, i);

@@ -15,7 +15,7 @@ pub fn return_start(image: &[u8], l: Layout, at: usize) -> usize
     ensures { λ r. ⌜ ((f : ImplFnDef) (n : ℕ) (h : Function-stands (l .names .rows) (l .strings .rows) (pool-words (now (image .entry)) l) f at n) → r ≡ h .parts .params-end) ⌝ }
 {
     let pool = l.pool;
-    let place = message_fields::after(pool, at);
+    let place = image_words::after(pool, at);
     skip_functions::functions::skip_params(image, pool, place)
 }
 
@@ -28,7 +28,7 @@ pub fn hold_return(image: &[u8], l: Layout, at: usize) -> MaybeType
     if image_words::section_word(image, pool, at) == 0 {
         return MaybeType::none();
     }
-    let place = message_fields::after(pool, at);
+    let place = image_words::after(pool, at);
     let h = type_from_pool::hold_type(image, l, place);
     let ty = h.ty;
     MaybeType::some(ty)

@@ -1,4 +1,4 @@
--- What functions of this crate ensure, where a line of the contract would not hold it.
+-- Contracts that are too long for a line, each called after its function.
 use Prim.Native.Nat.{ℕ}
 use mathlib.Core.List.{List}
 use mathlib.Core.Option.{Option}
@@ -15,7 +15,7 @@ use Rattle.write_words.specs.Written.{Written}
 use Rattle.expected_locals.specs.Entered.{Entered-says}
 use Rattle.expected_locals.specs.declared.Entered.{Entered}
 
--- the parameters resolved and in the table, or the bound that was passed
+-- the parameters resolved and in the table, or not ok where a bound is passed
 abbrev pub EntersParams : List ℕ → Layout → ℕ → List ℕ → List ℕ → List ℕ → List ℕ → Entered → Type 0
 EntersParams image l at params names' words' lens' r =
     (h : Params-here image l params at) → Entered-says (l .names .rows) (resolve-params (h .schema) (h .seen) (h .tree)) (h .behind) names' words' lens' r

@@ -1,4 +1,4 @@
--- Laws of what specs/All.antt defines.
+-- A test of every number below n, as a Bool, with the laws that a loop cites.
 use mathlib.Core.Path.{_≡_, refl, ap, ap₂, _∙_, sym}
 use mathlib.Core.Bool.{Bool, true, false, _&&_}
 use Prim.Native.Nat.{ℕ, zero, suc, _+_, _-_, _<_, _≤_}

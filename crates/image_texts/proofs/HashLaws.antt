@@ -1,4 +1,4 @@
--- Laws of what specs/Hash.antt defines.
+-- A number made of a list: lists with different numbers differ.
 use mathlib.Core.Path.{_≡_, refl, ap, _∙_}
 use mathlib.Core.Bool.{Bool, true, false, true≢false, _||_}
 use lib.Dec.{eqb}

@@ -1,4 +1,4 @@
--- A test of every number below n, as a Bool, with the laws that a loop cites.
+-- A test of every number below n, as a Bool.
 use mathlib.Core.Bool.{Bool, true, _&&_}
 use Prim.Native.Nat.{ℕ, zero, suc}
 

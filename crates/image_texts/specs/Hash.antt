@@ -1,4 +1,4 @@
--- A number made of a list: lists with different numbers differ.
+-- A number made of a text, and the numbers of all texts.
 use mathlib.Core.Path.{_≡_}
 use mathlib.Core.List.{List, [], _∷_}
 use Prim.Native.Nat.{ℕ, _+_, _*_, _%_, _<_, _≤_}

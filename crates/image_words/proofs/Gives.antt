@@ -1,4 +1,4 @@
--- Laws of what specs/Gives.antt defines.
+-- What a reader gives, and where it stands: one law for each step of a reader.
 use Prim.Native.Nat.{ℕ, zero, suc, _+_, _-_, _<_, _≤_}
 use mathlib.Core.Path.{_≡_, refl, sym, ap, subst, _∙_}
 use mathlib.Core.Bool.{Bool, true, false, cond}

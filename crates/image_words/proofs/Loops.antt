@@ -1,4 +1,4 @@
--- Laws of what specs/Loops.antt defines.
+-- Readings one behind the other: what is said of those that are left is said of all.
 use Prim.Native.Nat.{ℕ, suc, _+_, _-_, _<_, _≤_}
 use mathlib.Core.Path.{_≡_, refl, subst}
 use mathlib.Core.Bool.{Bool, true, false}

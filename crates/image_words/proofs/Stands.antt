@@ -1,4 +1,4 @@
--- Laws of what specs/Stands.antt defines.
+-- A reader that reads exactly some words gives what stands there and is good.
 use Prim.Native.Nat.{ℕ}
 use mathlib.Core.Path.{_≡_, refl, sym, ap, _∙_}
 use mathlib.Core.List.{List, _++_}

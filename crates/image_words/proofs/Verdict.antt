@@ -1,4 +1,4 @@
--- Laws of what specs/Verdict.antt defines.
+-- Laws: what the code says of a reading: whether it gives something, and the place behind it.
 use Prim.Native.Nat.{ℕ}
 use mathlib.Core.List.{List}
 use Rattle.rules.specs.Reader.{Reader}

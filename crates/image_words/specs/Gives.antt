@@ -1,4 +1,4 @@
--- What a reader gives, and where it stands: one law for each step of a reader.
+-- What stands at a place among words: a word, a number below a bound, things one behind the other, a count and so many, 0 or 1 and a thing.
 use Prim.Native.Nat.{ℕ, _+_, _<_, _≤_}
 use mathlib.Core.Path.{_≡_}
 use mathlib.Core.List.{List, [], _∷_}

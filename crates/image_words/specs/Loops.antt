@@ -1,4 +1,4 @@
--- Readings one behind the other: what is said of those that are left is said of all.
+-- A reading of which only a test is kept.
 use mathlib.Core.Bool.{Bool}
 use Rattle.rules.specs.Reader.{Reader, _>>=_, rule}
 

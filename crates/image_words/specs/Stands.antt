@@ -1,4 +1,4 @@
--- A reader that reads exactly some words gives what stands there and is good.
+-- Words that stand at a place, and a tree that is held there: its parts, its words, and that it is good.
 use Prim.Native.Nat.{ℕ, _+_}
 use mathlib.Core.Path.{_≡_}
 use mathlib.Core.List.{List, _++_}

@@ -1,6 +1,6 @@
 // Words of a section of the image, each found or refused: what every reading of the image is made of.
 ghost use mathlib.Core.Path.{_≡_};
-ghost use Prim.Native.Nat.{ℕ, suc, _-_};
+ghost use Prim.Native.Nat.{ℕ, suc, _+_, _-_, _<_};
 ghost use mathlib.Core.List.{List};
 ghost use lib.ListN.{getD};
 ghost use Rattle.rules.specs.Reader.{word, below};
@@ -34,6 +34,13 @@ pub fn section_word(image: &[u8], s: Section, at: usize) -> u32
         return 0;
     }
     words::whole_word(image, s.start + 4 * at)
+}
+
+// The place behind a word of a section.
+pub fn after(s: Section, at: usize) -> usize
+    ensures { λ r. ⌜ (at < s .len → r ≡ at + 1) ⌝ }
+{
+    if at < s.len { at + 1 } else { at }
 }
 
 // Any word.

@@ -34,7 +34,7 @@ pub fn target_message(image: &[u8], l: Layout, at: usize) -> Found
             start: 0,
         };
     }
-    let d = image_words::section_word(image, pool, message_fields::after(pool, at));
+    let d = image_words::section_word(image, pool, image_words::after(pool, at));
     let row = image_layout::definition_row(image, l, TypeId(d));
     let k = row.kind;
     Found {

@@ -24,7 +24,7 @@ pub fn function_names(image: &[u8], l: Layout, at: usize) -> [u32; 64]
     let count = few(image_words::section_word(image, pool, at));
     let mut names = [0u32; 64];
     let mut i = 0;
-    let mut next = message_fields::after(pool, at);
+    let mut next = image_words::after(pool, at);
     while i < count {
         let name = crate::places::name_at(image, l, next);
         names[i] = name.0;

@@ -16,7 +16,7 @@ pub fn function_places(image: &[u8], l: Layout, at: usize) -> [usize; 64]
     let count = crate::names::few(image_words::section_word(image, pool, at));
     let mut places = [0usize; 64];
     let mut i = 0;
-    let mut next = message_fields::after(pool, at);
+    let mut next = image_words::after(pool, at);
     while i < count {
         places[i] = next;
         next = crate::places::after_function(image, l, next);

@@ -35,7 +35,7 @@ pub fn find_subject(image: &[u8], l: Layout, number: TypeId) -> Subject
     let at = i.start;
     let id = image_words::section_word(image, pool, at);
     let t = impl_rows::find::find_trait(image, l, TypeId(id));
-    let name_at = message_fields::after(pool, at);
+    let name_at = image_words::after(pool, at);
     if !t.ok {
         let name = NameId(image_words::section_word(image, pool, name_at));
         return Subject {
@@ -46,7 +46,7 @@ pub fn find_subject(image: &[u8], l: Layout, number: TypeId) -> Subject
             types: 0,
         };
     }
-    let target = message_fields::after(pool, name_at);
+    let target = image_words::after(pool, name_at);
     Subject {
         number: 0,
         name: NameId::NONE,

@@ -1,4 +1,4 @@
--- What functions of this crate ensure, where a line of the contract would not hold it.
+-- Contracts that are too long for a line, each called after its function.
 use Prim.Native.Nat.{ℕ}
 use mathlib.Core.List.{List}
 use mathlib.Core.Option.{Option}
@@ -24,7 +24,7 @@ abbrev pub HintsExpression : List ℕ → Layout → Context → List ℕ → Li
 HintsExpression image l ctx names words lens at r =
     AtContext image l names words lens ctx (λ c. (nest : ℕ) → AtExpr image l nest at (λ e n. MaybeHolds (l .names .rows) r (expression-hint c e)))
 
--- the type under which an operation's left operand is typed
+-- the type under which an operation's left operand is typed, if any
 abbrev pub HintsBinary : List ℕ → Layout → Context → List ℕ → List ℕ → List ℕ → ℕ → ℕ → ℕ → MaybeType → MaybeType → Type 0
 HintsBinary image l ctx names words lens op left right expected r =
     AtContext image l names words lens ctx (λ c. (nest : ℕ)

@@ -1,6 +1,6 @@
-// What an expression is by itself: a local, SelfRef, a field of SelfRef; and where its parts stand.
+// A function's context, what an expression is by itself there (a local, SelfRef, a field of SelfRef), and where its parts stand.
 use image_layout::Layout;
-use message_fields::after;
+use image_words::after;
 use rules::ids::NameId;
 use rules::kinds::ExprKind;
 use type_words::MaybeType;

@@ -1,4 +1,4 @@
--- Laws of what specs/Placed.antt defines.
+-- Laws: places: an expression that has its type by itself, or a refusal with its name.
 use Prim.Native.Nat.{ℕ}
 use mathlib.Core.Path.{_≡_, refl, ap}
 use mathlib.Core.Bool.{true, false}

@@ -1,4 +1,4 @@
--- What functions of this crate ensure, where a line of the contract would not hold it.
+-- Contracts that are too long for a line, each called after its function.
 use Prim.Native.Nat.{ℕ, _+_, _<_}
 use mathlib.Core.List.{List}
 use mathlib.Core.Option.{Option}
@@ -27,7 +27,7 @@ InfersLiteral image l at expected context r =
     → (o : Option ResolvedType) → MaybeHolds (l .names .rows) expected o → (c : FunctionContext)
     → Says (l .names .rows) (c .function) (infer-expr c (Expr.literal k low high) o context) r
 
--- what typing says of a place whose own type is its hint, and the number where it has none
+-- what typing says of a place whose own type is its hint, and the number, 1 to 19, where it has none
 abbrev pub InfersPlace : List ℕ → Layout → Context → List ℕ → List ℕ → List ℕ → ℕ → MaybeType → ℕ → ℕ → Inferred → Type 0
 InfersPlace image l ctx names words lens at expected context number r =
     AtContext image l names words lens ctx (λ c. (nest : ℕ)

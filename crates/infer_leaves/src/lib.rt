@@ -28,9 +28,9 @@ fn literal_bits(image: &[u8], l: Layout, at: usize) -> u64
     ensures { λ r. ⌜ ((nest c low high n : ℕ) → Stood (l .names .rows) (l .strings .rows) (pool-words (now (image .entry)) l) nest (Expr.literal c low high) at n → r ≡ low + 4294967296 * high) ⌝ }
 {
     let pool = l.pool;
-    let next = message_fields::after(pool, at);
+    let next = image_words::after(pool, at);
     let low = image_words::section_word(image, pool, next);
-    let high = image_words::section_word(image, pool, message_fields::after(pool, next));
+    let high = image_words::section_word(image, pool, image_words::after(pool, next));
     (low as u64) + 4294967296 * (high as u64)
 }
 
@@ -105,10 +105,10 @@ fn method_name(image: &[u8], l: Layout, at: usize) -> NameId
     ensures { λ r. ⌜ NamesMethod (now (image .entry)) l at r ⌝ }
 {
     let pool = l.pool;
-    NameId(infer_context::operand(image, l, message_fields::after(pool, at)))
+    NameId(infer_context::operand(image, l, image_words::after(pool, at)))
 }
 
-// The type of an expression that is no operation, or its refusal; nothing is asked of the last arm.
+// The type of an expression that is no operation, or its refusal; an operation is not asked here, and its arm's answer means nothing.
 pub fn infer_leaf(
     image: &[u8],
     l: Layout,

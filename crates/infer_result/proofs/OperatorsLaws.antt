@@ -1,4 +1,4 @@
--- Laws of what specs/Operators.antt defines.
+-- Laws: the end of an operation, by its operand's type.
 use Prim.Native.Nat.{ℕ, _+_}
 use mathlib.Core.Path.{_≡_, ap}
 use mathlib.Core.Bool.{Bool, true, false, cond}

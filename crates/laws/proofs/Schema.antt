@@ -20,9 +20,17 @@ use Rattle.rules.proofs.Gives as gives
 use Rattle.rules.specs.Exact.{Gives, Exact}
 use Rattle.rules.proofs.Types.{type-exact, within-true}
 use Rattle.laws.proofs.Each.{map-all}
-use Rattle.laws.specs.DefinitionRuns.{definition-words}
+use Rattle.laws.specs.DefinitionRuns.{message-words, generic-alias-words, trait-words, implementation-words}
 use Rattle.laws.proofs.Definitions.{message-exact, generic-alias-exact, trait-exact, implementation-exact}
 use Rattle.laws.specs.GoodSchema.{most-words, GoodName, GoodDefinition, GoodSchema}
+
+-- what a definition has in the pool
+abbrev definition-words : TypeDef → List ℕ
+definition-words TypeDef.other = []
+definition-words (TypeDef.message m) = message-words m
+definition-words (TypeDef.generic-alias a) = generic-alias-words a
+definition-words (TypeDef.trait t) = trait-words t
+definition-words (TypeDef.implementation i) = implementation-words i
 
 -- so many readings, of each of which something holds
 times-all : {A : Type 0} {r : Reader A} {P : A → Type 0} → Gives r (λ a ws. P a) → (n : ℕ) → Gives (times n r) (λ xs ws. All P xs × (length xs ≡ n))

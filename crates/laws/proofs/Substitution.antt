@@ -1,4 +1,4 @@
--- Laws of what specs/Substitution.antt defines.
+-- What substitution gives: visits between 1 and 1,024, a run of at most 64 words, and a good type where all that it reads is good.
 use Prim.Native.Nat.{ℕ, zero, suc, _≤_}
 use mathlib.Core.Path.{_≡_, refl}
 use mathlib.Core.Bool.{Bool, true, false}

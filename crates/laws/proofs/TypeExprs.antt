@@ -1,4 +1,4 @@
--- Laws of what specs/TypeExprs.antt defines.
+-- Type expressions in the pool: a run reads back to its expression and nothing else does.
 use Prim.Native.Nat.{ℕ, zero, suc, _≤_}
 use mathlib.Core.Path.{_≡_, refl, sym, ap, ap₂, subst}
 use mathlib.Core.List.{List, [], _∷_, _++_}

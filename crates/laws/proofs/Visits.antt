@@ -1,4 +1,4 @@
--- Laws of what specs/Visits.antt defines.
+-- Visits counted without a bound and compared with 1,024 once: the same answers as the rules', which stop on the way.
 use Prim.Native.Nat.{ℕ, zero, suc, _+_, _<_}
 use mathlib.Core.Path.{_≡_, refl, sym, ap, _∙_, fun-ext}
 use mathlib.Core.Bool.{Bool, true, false}

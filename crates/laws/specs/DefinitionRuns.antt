@@ -5,7 +5,7 @@ use mathlib.Core.Bool.{true}
 use mathlib.Core.List.{List, [], _∷_, _++_, map}
 use Rattle.rules.specs.Exact.{Few, optional}
 use Rattle.rules.specs.Words.{all-different}
-use Rattle.rules.specs.Syntax.{run, expr-run, Param, ImplFnDef, TraitReturn, TraitFnDef, MessageDef, GenericAliasDef, TraitDef, ImplDef, TypeDef}
+use Rattle.rules.specs.Syntax.{run, expr-run, Param, ImplFnDef, TraitReturn, TraitFnDef, MessageDef, GenericAliasDef, TraitDef, ImplDef}
 use Rattle.rules.specs.Output.{listed}
 use Rattle.rules.specs.Good.{AllOption, Stored}
 use Rattle.laws.specs.TypeExprs.{StoredExpr}
@@ -40,14 +40,6 @@ impl-function-words f = f .name ∷ (listed (typed-words run) (f .params) ++ (op
 
 unfoldable pub implementation-words : ImplDef → List ℕ
 implementation-words i = i .trait-id ∷ i .trait-name ∷ (run (i .target-type) ++ (listed run (i .type-args) ++ listed impl-function-words (i .functions)))
-
--- what a definition has in the pool
-abbrev pub definition-words : TypeDef → List ℕ
-definition-words TypeDef.other = []
-definition-words (TypeDef.message m) = message-words m
-definition-words (TypeDef.generic-alias a) = generic-alias-words a
-definition-words (TypeDef.trait t) = trait-words t
-definition-words (TypeDef.implementation i) = implementation-words i
 
 module _ (names : ℕ) where
   pub record GoodParam {A : Type 0} (Good : A → Type 0) (p : Param A) : Type 0 where

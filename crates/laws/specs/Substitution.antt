@@ -1,4 +1,4 @@
--- What substitution gives: visits between 1 and 1,024, a run of at most 64 words, and a good type where all that it reads is good.
+-- Visits and runs as an accepted substitution has them.
 use Prim.Native.Nat.{ℕ, _≤_}
 use lib.ListN.{length}
 use Rattle.rules.specs.Syntax.{ResolvedType, run}

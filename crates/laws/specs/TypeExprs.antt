@@ -1,4 +1,4 @@
--- Type expressions in the pool: a run reads back to its expression and nothing else does.
+-- A type expression as the pool holds it.
 use Prim.Native.Nat.{ℕ, _≤_}
 use lib.ListN.{length}
 use Rattle.rules.specs.Syntax.{TypeExpr, expr-run}

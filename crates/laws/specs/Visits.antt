@@ -1,4 +1,4 @@
--- Visits counted without a bound and compared with 1,024 once: the same answers as the rules', which stop on the way.
+-- Substitution with its visits counted to the end, and what is too large once they are compared with 1,024.
 use Prim.Native.Nat.{ℕ, zero, suc, _+_}
 use mathlib.Core.Bool.{true, false}
 use mathlib.Core.List.{List, [], _∷_}

@@ -1,1 +1,1 @@
-// Laws of the rules that every layer cites are stated in specs/ and proved in proofs/; this crate has no code of its own.
+// Laws of the rules: stated in specs/, proved in proofs/, whose parts every layer cites. This crate has no code of its own.

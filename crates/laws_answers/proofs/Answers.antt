@@ -11,8 +11,7 @@ use Rattle.rules.specs.Image.{readable}
 use Rattle.rules.specs.Answer.{project-call, signatures-call, project-answer, signatures-answer}
 use Rattle.laws.proofs.Schema.{readable-good}
 use Rattle.laws_answers.proofs.Ends.{Ends, Short}
-use Rattle.laws_answers.specs.Answers.{DetailFits, Bounded, OneAnswer}
-use Rattle.laws_answers.specs.Bounds.{most-visits, most-output, most-signatures}
+use Rattle.laws_answers.specs.Answers.{ProjectDetailFits, SignaturesDetailFits, ProjectBounded, SignaturesBounded, OneOfAnswers}
 use Rattle.laws_answers.proofs.Calls.{Written, Listed, project-call-ends, signatures-call-ends}
 
 pub bytes-length : (ws : List ℕ) → length (bytes-of ws) ≡ 4 * length ws
@@ -28,20 +27,20 @@ module _ (image : List ℕ) (schema : CompiledSchema) (held : readable image ≡
   pub signatures-ends : Ends Short (signatures-call row schema) (Listed (length (schema .names)))
   signatures-ends = let g = readable-good image schema held in signatures-call-ends (length (schema .names)) (g .0) schema (g .1) row
 
-pub project-detail : DetailFits project-call
+pub project-detail : ProjectDetailFits
 project-detail image schema held row r e = omega (arith, bytes-length (r .detail), project-ends image schema held row .refuses r e)
 
-pub signatures-detail : DetailFits signatures-call
+pub signatures-detail : SignaturesDetailFits
 signatures-detail image schema held row r e = omega (arith, bytes-length (r .detail), signatures-ends image schema held row .refuses r e)
 
-pub project-bound : Bounded project-call most-visits most-output
+pub project-bound : ProjectBounded
 project-bound image schema held row visits words e = let w = project-ends image schema held row .gives (visits, words) e in (w .visits, w .small)
 
-pub signatures-bound : Bounded signatures-call most-visits most-signatures
+pub signatures-bound : SignaturesBounded
 signatures-bound image schema held row visits words e = let w = signatures-ends image schema held row .gives (visits, words) e in (w .visits, w .small)
 
-pub project-one : OneAnswer project-answer
+pub project-one : OneOfAnswers project-answer
 project-one image row output detail a b p q = p ∙ sym q
 
-pub signatures-one : OneAnswer signatures-answer
+pub signatures-one : OneOfAnswers signatures-answer
 signatures-one image row output detail a b p q = p ∙ sym q

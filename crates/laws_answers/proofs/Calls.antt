@@ -1,4 +1,4 @@
--- Laws of what specs/Calls.antt defines.
+-- The two calls on a good schema: typed output of bounded size and visits, and short details.
 use Prim.Native.Nat.{ℕ, _≤_}
 use mathlib.Core.Path.{ap, _∙_, _≡_, refl}
 use mathlib.Core.Bool.{not}

@@ -1,4 +1,4 @@
--- Laws of what specs/Ends.antt defines.
+-- What holds of a result: of what is given, and of a refusal. A law for each step.
 use Prim.Native.Nat.{_≤_}
 use mathlib.Core.Path.{_≡_, refl, subst}
 use mathlib.Core.Bool.{Bool, true, false}

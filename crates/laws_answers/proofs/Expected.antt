@@ -1,4 +1,4 @@
--- Laws of what specs/Expected.antt defines.
+-- The signatures that a trait asks for: typed, with visits that stay small.
 use Prim.Native.Nat.{ℕ, suc, _*_, _≤_}
 use mathlib.Core.Path.{_≡_, refl, ap, ap₂}
 use mathlib.Core.Bool.{Bool, true, false, not, _||_}

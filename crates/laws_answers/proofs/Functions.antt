@@ -1,4 +1,4 @@
--- Laws of what specs/Functions.antt defines.
+-- Projected functions: typed, and of a size that their stored words bound.
 use Prim.Native.Nat.{ℕ, suc, _+_, _*_, _≤_}
 use mathlib.Core.Path.{_≡_, refl, ap}
 use mathlib.Core.Bool.{Bool, true, false}

@@ -1,4 +1,4 @@
--- Laws of what specs/Values.antt defines.
+-- Typed expressions: their types are such as the pool could hold, they nest no deeper and grow at most 65-fold.
 use Prim.Native.Nat.{ℕ, _*_, _≤_}
 use mathlib.Core.Path.{_≡_, refl}
 use mathlib.Core.Bool.{Bool, true, false, cond}

@@ -1,4 +1,4 @@
--- Laws of what specs/Adds.antt defines.
+-- Laws: a row written behind the others.
 use Prim.Native.Nat.{ℕ, _+_, _*_, _<_, _≤_}
 use native.Mathlib.Omega.{arith}
 use mathlib.Core.Path.{_≡_, sym, ap, subst, _∙_}

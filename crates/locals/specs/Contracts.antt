@@ -1,4 +1,4 @@
--- What functions of this crate ensure, where a line of the contract would not hold it.
+-- Contracts that are too long for a line, each called after its function.
 use Prim.Native.Nat.{ℕ, _+_}
 use mathlib.Core.List.{List, [], _∷_, _++_}
 use Rattle.rules.specs.Syntax.{ResolvedType, Param}
@@ -7,7 +7,7 @@ use Rattle.type_words.specs.Holds.{Holds}
 use Rattle.type_words.specs.declared.HeldType.{HeldType}
 use Rattle.locals.specs.Rows.{Rows, Last}
 
--- the row of the last local of that name
+-- the row of the last local of that name, or one past the rows
 abbrev pub FindsLocal : List ℕ → ℕ → NameId → ℕ → Type 0
 FindsLocal names count x r =
     (rows : ℕ) (words lens : List ℕ) (ps : List (Param ResolvedType)) → Rows rows names words lens count 0 ps

@@ -1,6 +1,6 @@
 // A message's fields by name, where its body stands in the pool.
 use image_layout::Layout;
-use image_words::Section;
+use image_words::after;
 use rules::ids::NameId;
 use type_words::MaybeType;
 ghost use mathlib.Core.Path.{_≡_};
@@ -15,13 +15,6 @@ ghost use Rattle.image_layout.specs.Rows.{Inside};
 ghost use Rattle.image_layout.specs.Open.{pool-words};
 ghost use Rattle.message_fields.specs.Fields.{Fields};
 ghost use Rattle.message_fields.specs.Contracts.{FindsField};
-
-// The place behind a word of a section.
-pub fn after(s: Section, at: usize) -> usize
-    ensures { λ r. ⌜ (at < s .len → r ≡ at + 1) ⌝ }
-{
-    if at < s.len { at + 1 } else { at }
-}
 
 // The place of a field's type, if the field has the name.
 fn pick(best: usize, place: usize, name: NameId, x: NameId) -> usize

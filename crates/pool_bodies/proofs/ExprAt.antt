@@ -1,4 +1,4 @@
--- Laws of what specs/ExprAt.antt defines.
+-- Laws: which expression stands where among some words: by recursion on the expression, so that its parts come out by projection.
 use Prim.Native.Nat.{ℕ, zero, suc, _+_, _<_}
 use mathlib.Core.Path.{_≡_, refl, ap, _∙_}
 use mathlib.Core.List.{List}

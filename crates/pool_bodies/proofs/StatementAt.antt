@@ -1,4 +1,4 @@
--- Laws of what specs/StatementAt.antt defines.
+-- Laws: which statement or body stands where among some words.
 use Prim.Native.Nat.{ℕ, _+_}
 use mathlib.Core.Path.{_≡_, refl, sym, ap, _∙_}
 use mathlib.Core.List.{List}

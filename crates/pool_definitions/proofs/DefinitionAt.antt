@@ -1,4 +1,4 @@
--- Laws of what specs/DefinitionAt.antt defines.
+-- Laws: which definition stands where among some words; a `..-end` is the place behind a part.
 use Prim.Native.Nat.{ℕ, _+_}
 use mathlib.Core.Path.{_≡_, refl, _∙_}
 use mathlib.Core.List.{List}

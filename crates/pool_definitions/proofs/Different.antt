@@ -1,4 +1,4 @@
--- Laws of what specs/Different.antt defines.
+-- Numbers all different: one more at the end, and a trait's functions by their names.
 use Prim.Native.Nat.{ℕ, suc, _+_, _<_}
 use mathlib.Core.Path.{_≡_, refl, sym, ap, _∙_}
 use mathlib.Core.Bool.{Bool, true, false}

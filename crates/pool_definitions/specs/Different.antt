@@ -1,4 +1,4 @@
--- Numbers all different: one more at the end, and a trait's functions by their names.
+-- A trait's functions by their names, and the reading that asks that these are all different.
 use Prim.Native.Nat.{ℕ}
 use mathlib.Core.List.{List, map}
 use Rattle.rules.specs.Words.{all-different}

@@ -1,4 +1,4 @@
--- Laws of what specs/TypeExprAt.antt defines.
+-- Laws: which type expression stands where among some words.
 use Prim.Native.Nat.{ℕ, zero, suc, _+_}
 use mathlib.Core.Path.{_≡_, refl, ap}
 use mathlib.Core.List.{List}

@@ -1,4 +1,4 @@
--- Laws of what specs/ParamAt.antt defines.
+-- Laws: a name with its type stands where its name does, and the type behind it.
 use Prim.Native.Nat.{ℕ, _+_}
 use mathlib.Core.List.{List}
 use Rattle.rules.specs.Reader.{Reader}

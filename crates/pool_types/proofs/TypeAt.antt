@@ -1,4 +1,4 @@
--- Laws of what specs/TypeAt.antt defines.
+-- Laws: which resolved type stands where among some words: by recursion on the type, so that its parts come out by projection.
 use Prim.Native.Nat.{ℕ, zero, suc, _+_}
 use mathlib.Core.Path.{_≡_, refl, ap}
 use mathlib.Core.List.{List}

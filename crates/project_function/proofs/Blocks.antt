@@ -1,4 +1,4 @@
--- Laws of what specs/Blocks.antt defines.
+-- Statements one behind the other: what is written so far, followed by what the rules make of those left.
 use Prim.Native.Nat.{ℕ, _+_, _<_, _≤_}
 use native.Mathlib.Omega.{arith}
 use mathlib.Core.Path.{_≡_, refl, sym, ap, subst, _∙_}

@@ -1,4 +1,4 @@
--- Statements one behind the other: what is written so far, followed by what the rules make of those left.
+-- The statements that stand one behind the other from a place on.
 use Prim.Native.Nat.{ℕ, _+_, _≤_}
 use mathlib.Core.Path.{_≡_}
 use mathlib.Core.List.{List}

@@ -1,4 +1,4 @@
--- What functions of this crate ensure, where a line of the contract would not hold it.
+-- Contracts that are too long for a line, each called after its function.
 use Prim.Native.Nat.{ℕ, _+_, _≤_}
 use mathlib.Core.List.{List}
 use mathlib.Core.Option.{Option}
@@ -32,8 +32,8 @@ ProjectsFunction image l at ctx names words lens returns out out' limit to r =
     → (o : Option ResolvedType) → MaybeHolds (l .names .rows) returns o → Comes-to (body-words-of c o b) limit to out out' r)
 
 -- one statement that is no Return: its words, and a local more where it is a Let
-abbrev pub ProjectsStatement : List ℕ → Layout → ℕ → Context → List ℕ → List ℕ → List ℕ → List ℕ → List ℕ → List ℕ → List ℕ → List ℕ → ℕ → ℕ → Step → Type 0
-ProjectsStatement image l at ctx names names' words words' lens lens' out out' limit to r =
+abbrev pub ProjectsStep : List ℕ → Layout → ℕ → Context → List ℕ → List ℕ → List ℕ → List ℕ → List ℕ → List ℕ → List ℕ → List ℕ → ℕ → ℕ → Step → Type 0
+ProjectsStep image l at ctx names names' words words' lens lens' out out' limit to r =
     AtContext image l names words lens ctx (λ c. (s : Statement) (n : ℕ)
     → Statement-stands (l .names .rows) (l .strings .rows) (pool-words image l) s at n → ctx .count + let-count s ≤ 64
     → Passing c s (Steps image l names' words' lens' ctx limit to out out' r (let-count s)))

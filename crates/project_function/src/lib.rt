@@ -1,10 +1,10 @@
 // The typed statements of one function.
-use crate::statement::project_statement;
+use crate::statement::project_step;
 use answers::answer::Outcome;
 use answers::refusal::Refusal;
 use image_layout::Layout;
+use image_words::after;
 use infer_context::Context;
-use message_fields::after;
 use project_statement::parts::skip_statement;
 use project_statement::returns::RETURN;
 use project_statement::returns::project_return;
@@ -66,7 +66,7 @@ pub fn project_statements(
                 place,
             );
         }
-        let s = project_statement(image, l, next, c, names, words, lens, out, limit, place);
+        let s = project_step(image, l, next, c, names, words, lens, out, limit, place);
         let done = s.done;
         if !done.ok {
             return done;

@@ -10,9 +10,9 @@ use project_statement::assigns::project_assign;
 ghost use Prim.Native.Nat.{_≤_};
 ghost use lib.ListN.{length};
 ghost use Rattle.image_layout.specs.Rows.{Inside};
-ghost use Rattle.project_function.specs.Contracts.{ProjectsStatement};
+ghost use Rattle.project_function.specs.Contracts.{ProjectsStep};
 
-pub fn project_statement(
+pub fn project_step(
     image: &[u8],
     l: Layout,
     at: usize,
@@ -25,7 +25,7 @@ pub fn project_statement(
     to: usize,
 ) -> Step
     requires { ⌜ Inside (now image) l × (limit ≤ length (now out)) × (64 ≤ length (now names)) × (4096 ≤ length (now words)) × (64 ≤ length (now lens)) ⌝ }
-    ensures { λ r. ⌜ ProjectsStatement (now (image .entry)) l at ctx (now (names .entry)) (now (names .exit)) (now (words .entry)) (now (words .exit))
+    ensures { λ r. ⌜ ProjectsStep (now (image .entry)) l at ctx (now (names .entry)) (now (names .exit)) (now (words .entry)) (now (words .exit))
         (now (lens .entry)) (now (lens .exit)) (now (out .entry)) (now (out .exit)) limit to r ⌝ }
 {
     let pool = l.pool;

@@ -24,8 +24,8 @@ use Rattle.expected_functions.specs.Asked.{in-words, Asked}
 use Rattle.expected_functions.proofs.Views as views
 use Rattle.impl_functions.specs.Functions.{Functions-here, Placed, All-asked-here}
 use Rattle.project_impl.specs.Asked.{Wanted}
-use Rattle.project_list.specs.declared.parts.Parts.{Parts}
-use Rattle.project_list.specs.Asked.{Behind, Stand, All}
+use Rattle.project_functions.specs.declared.parts.Parts.{Parts}
+use Rattle.project_functions.specs.Asked.{Behind, Stand, All}
 use Rattle.project_impl.proofs.WholeLaws.{same-names, as-many, words-ok}
 
 module _ {image : List ℕ} {l : Layout} {start types : ℕ} (w : Wanted image l start types) {n : ℕ} (is : n ≡ getD (pool-words image l) (start + 1) 0) where

@@ -22,10 +22,10 @@ use Rattle.answers.proofs.Calls.{comes-err, comes-ok}
 use Rattle.project_outcome.specs.Outcomes.{Comes-to}
 use Rattle.expected_functions.specs.Asked.{in-words}
 use Rattle.project_outcome.proofs.Coming.{came-err, came-ok}
-use Rattle.project_list.specs.Steps.{list-words}
+use Rattle.project_functions.specs.Steps.{list-words}
 use Rattle.project_impl.specs.Steps.{tested-words, found-words, projected-words}
 use Rattle.project_impl.specs.Asked.{Few}
-use Rattle.project_list.proofs.Resolved.{resolved, first, none-left}
+use Rattle.project_functions.proofs.Resolved.{resolved, first, none-left}
 
 -- expected signatures have their functions' names
 pub same-names : (schema : CompiledSchema) (seen : List (Param ResolvedType)) (fs : List TraitFnDef) {v : ℕ} {ss : List PortableSignature} → expected-list schema seen fs ≡ ok (v, ss) → map (λ f. f .name) fs ≡ map (λ s. s .name) ss

@@ -1,4 +1,4 @@
--- What functions of this crate ensure, where a line of the contract would not hold it.
+-- Contracts that are too long for a line, each called after its function.
 use Prim.Native.Nat.{ℕ}
 use mathlib.Core.List.{List}
 use lib.ListN.{length}
@@ -8,8 +8,8 @@ use Rattle.expected_functions.specs.Asked.{Asked}
 use Rattle.image_layout.specs.declared.Layout.{Layout}
 use Rattle.impl_trait.specs.Subjects.{About}
 use Rattle.impl_trait.specs.declared.Subject.{Subject}
-use Rattle.project_list.specs.Asked.{Behind}
-use Rattle.project_list.specs.declared.parts.Parts.{Parts}
+use Rattle.project_functions.specs.Asked.{Behind}
+use Rattle.project_functions.specs.declared.parts.Parts.{Parts}
 use Rattle.project_outcome.specs.Outcomes.{Comes-to}
 use Rattle.rules.specs.Syntax.{MessageDef}
 use Rattle.project_impl.specs.Asked.{Wanted, Few}

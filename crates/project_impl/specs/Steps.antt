@@ -5,7 +5,7 @@ use Rattle.rules.specs.Syntax.{MessageDef, TraitDef, ImplDef, CompiledSchema}
 use Rattle.rules.specs.Refusal.{Result, ok, _>>=_}
 use Rattle.rules.specs.Signatures.{PortableSignature, expected-functions}
 use Rattle.rules.specs.Project.{target-message, no-repeat, no-stranger}
-use Rattle.project_list.specs.Steps.{list-words}
+use Rattle.project_functions.specs.Steps.{list-words}
 
 module _ (impl : ImplDef) (message : MessageDef) where
   -- 9 and 10 come before the functions

@@ -1,7 +1,7 @@
 // An implementation, its trait and its message, found in the pool.
 use answers::answer::Outcome;
 use image_layout::Layout;
-use project_list::parts::Parts;
+use project_functions::parts::Parts;
 ghost use Rattle.image_layout.specs.Rows.{Cut};
 ghost use Rattle.expected_functions.specs.Asked.{Asked};
 ghost use Rattle.project_impl.specs.Asked.{Wanted};
@@ -23,7 +23,7 @@ fn project_tested(
     let pool = l.pool;
     let n = image_words::section_word(image, pool, start + 1) as usize;
     let asked = start + 1 + 1 + n;
-    let functions = project_list::parts::functions_start(image, l, types);
+    let functions = project_functions::parts::functions_start(image, l, types);
     let found = impl_functions::table::function_places(image, l, functions);
     let count = impl_functions::names::few(image_words::section_word(image, pool, functions));
     let places = &found[..count];
@@ -38,7 +38,7 @@ fn project_tested(
     let table = impl_rows::view::view(image, l, start + 1 + 1, types + 1, n);
     let params = &table[..66 * n];
     let limit = out.len();
-    project_list::list::project_list(image, l, asked, params, places, parts, out, limit, 0)
+    project_functions::list::project_list(image, l, asked, params, places, parts, out, limit, 0)
 }
 
 // 6, 8 and 7 of the trait at `start` come before 9 and 10; the message's fields stand at `fields`, the target type at `target`.

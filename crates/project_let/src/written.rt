@@ -1,6 +1,6 @@
 // The type written on a Let.
 use image_layout::Layout;
-use message_fields::after;
+use image_words::after;
 use type_words::MaybeType;
 ghost use Rattle.image_layout.specs.Rows.{Inside};
 ghost use Rattle.project_let.specs.Contracts.{TellsWrittenType};

@@ -1,4 +1,4 @@
--- Laws of what specs/Targets.antt defines.
+-- What an assignment's target names, by the codes that stand there.
 use Prim.Native.Nat.{ℕ, _+_, _-_, _<_}
 use mathlib.Core.Path.{_≡_, refl, sym, ap, _∙_}
 use mathlib.Core.Bool.{true, false}

@@ -1,4 +1,4 @@
--- What functions of this crate ensure, where a line of the contract would not hold it.
+-- Contracts that are too long for a line, each called after its function.
 use Prim.Native.Nat.{ℕ}
 use mathlib.Core.Bool.{Bool}
 use mathlib.Core.List.{List, _∷_}
@@ -27,19 +27,19 @@ ProjectsAssign image l at ctx names words lens out out' limit to r =
     → Statement-stands (l .names .rows) (l .strings .rows) (pool-words image l) (Statement.assign t e) at n
     → Comes-to (assign-words c t e) limit to out out' r)
 
--- a Return without a value, and 22 or 23
+-- the words of a Return without a value, or 22 or 23
 abbrev pub ReturnsNothing : NameId → MaybeType → Bool → List ℕ → List ℕ → ℕ → ℕ → Outcome → Type 0
 ReturnsNothing function returns last out out' limit to r =
     (c : FunctionContext) → function .0 ≡ c .function → (rows : ℕ) (o : Option ResolvedType) → MaybeHolds rows returns o → (ss : List Statement)
     → is-empty ss ≡ last → Comes-to (block-words o c (Statement.return none ∷ ss)) limit to out out' r
 
--- a Return with the value that stands there, and 22 or 23
+-- the words of a Return with the value that stands there, or 22, 23 or the value's refusal
 abbrev pub ReturnsValue : List ℕ → Layout → ℕ → Context → List ℕ → List ℕ → List ℕ → MaybeType → Bool → List ℕ → List ℕ → ℕ → ℕ → Outcome → Type 0
 ReturnsValue image l at ctx names words lens returns last out out' limit to r =
     AtContext image l names words lens ctx (λ c. AtExpr image l 32 at (λ e n. (o : Option ResolvedType) → MaybeHolds (l .names .rows) returns o
     → (ss : List Statement) → is-empty ss ≡ last → Comes-to (block-words o c (Statement.return (some e) ∷ ss)) limit to out out' r))
 
--- the Return that stands there, and 22 or 23
+-- the words of the Return that stands there, or 22, 23 or its value's refusal
 abbrev pub ProjectsReturn : List ℕ → Layout → ℕ → Context → List ℕ → List ℕ → List ℕ → MaybeType → Bool → List ℕ → List ℕ → ℕ → ℕ → Outcome → Type 0
 ProjectsReturn image l at ctx names words lens returns last out out' limit to r =
     AtContext image l names words lens ctx (λ c. (v : Option Expr) (n : ℕ)

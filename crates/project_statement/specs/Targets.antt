@@ -1,4 +1,4 @@
--- What an assignment's target names, by the codes that stand there.
+-- What an assignment's target is found to be.
 use Prim.Native.Nat.{ℕ}
 use mathlib.Core.Path.{_≡_}
 use mathlib.Core.Bool.{true, false}

@@ -1,4 +1,4 @@
--- Laws of what specs/Cases.antt defines.
+-- Laws: a stored case as its words tell it (vectors/README.md).
 use Prim.Native.Nat.{ℕ, _+_, _≤_, _<_}
 use mathlib.Core.Path.{_≡_, refl, sym, ap, _∙_}
 use mathlib.Core.Bool.{Bool, true, false, _&&_}

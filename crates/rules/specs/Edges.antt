@@ -1,7 +1,8 @@
 -- At the edges: document 01's P cases as one table, a question with its answer's words in each row, and rows that guard what is easy to get wrong.
--- The claims that every row holds stand in proofs/.
+-- `Answered` is the claim that every row of a table holds.
 use Prim.Native.Nat.{ℕ, zero, suc, _^_, _-_, _/_, _%_}
-use mathlib.Core.List.{List, [], _∷_, _++_}
+use mathlib.Core.Path.{_≡_}
+use mathlib.Core.List.{List, [], _∷_, _++_, map}
 use mathlib.Core.Option.{Option, none, some}
 use lib.ListN.{length}
 use Rattle.rules.specs.Words.{NONE, bytes-of}
@@ -169,3 +170,7 @@ guards =
     ∷ row (projecting 2 (implements (asked 4 ∷ []) (empty 5 ∷ []))) (10 ∷ 5 ∷ NONE ∷ [])
     ∷ row (projecting 2 (implements (asked 4 ∷ asked 5 ∷ []) (empty 5 ∷ empty 4 ∷ []))) (0 ∷ 0 ∷ 2 ∷ 4 ∷ 0 ∷ 0 ∷ 0 ∷ 5 ∷ 0 ∷ 0 ∷ 0 ∷ [])
     ∷ []
+
+-- every question of some rows has the answer beside it
+abbrev pub Answered : List Row → Type 0
+Answered rows = map (λ row. answer-to (row .question)) rows ≡ map (λ row. row .answer) rows

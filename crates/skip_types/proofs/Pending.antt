@@ -1,4 +1,4 @@
--- Laws of what specs/Pending.antt defines.
+-- So many things that are still to be gone past, one behind the other: what is left decides.
 use Prim.Native.Nat.{ℕ, suc, _+_, _-_, _<_, _≤_}
 use mathlib.Core.Path.{_≡_, refl, sym, ap, subst}
 use mathlib.Core.List.{List, [], _∷_, _++_}

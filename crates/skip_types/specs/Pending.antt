@@ -1,4 +1,4 @@
--- So many things that are still to be gone past, one behind the other: what is left decides.
+-- So many things that are still to be gone past, one behind the other.
 use Prim.Native.Nat.{ℕ}
 use mathlib.Core.Path.{_≡_}
 use mathlib.Core.List.{List}

@@ -1,4 +1,4 @@
--- Laws of what specs/Copies.antt defines.
+-- Laws: words copied one by one into an array of 64.
 use Prim.Native.Nat.{ℕ, _+_, _<_, _≤_}
 use mathlib.Core.Path.{_≡_, sym, ap, _∙_}
 use mathlib.Core.List.{List}

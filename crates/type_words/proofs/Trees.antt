@@ -1,7 +1,10 @@
 -- Held trees: what the makers of held types give, as types of the rules. Assumes nothing.
 use Prim.Native.Nat.{ℕ}
 use mathlib.Core.Path.{_≡_, ap, ap₂}
+use mathlib.Core.Bool.{true}
 use mathlib.Core.List.{List, [], _∷_, _++_}
+use lib.ListN.{length}
+use lib.Dec.{leb}
 use Rattle.rules.specs.Syntax.{ResolvedType, run}
 use Rattle.rules.specs.Kinds.{type-kind}
 use Rattle.rules.specs.declared.kinds.TypeKind.{TypeKind}
@@ -9,8 +12,13 @@ use Rattle.rules.specs.Good.{Good}
 use Rattle.type_words.specs.declared.HeldType.{HeldType}
 use Rattle.type_words.specs.declared.Grown.{Grown}
 use Rattle.type_words.specs.Runs.{held-run, Runs, Grows}
-use Rattle.type_words.specs.Holds.{Holds, Built}
+use Rattle.type_words.specs.Holds.{Holds}
 use Rattle.type_words.proofs.Runs.{grows-at}
+
+-- r holds the type t where its run has at most 64 words, and is not ok where it has more
+pub record Built (names : ℕ) (r : Grown) (t : ResolvedType) : Type 0 where
+  pub ok : r .ok ≡ leb (length (run t)) 64
+  pub holds : r .ok ≡ true → Holds names (r .ty) t
 
 -- a run of a good type is the type held
 pub holds : (names : ℕ) {h : HeldType} {t : ResolvedType} → Runs h (run t) → Good names t → Holds names h t

@@ -4,12 +4,10 @@ use mathlib.Core.Path.{_≡_}
 use mathlib.Core.Bool.{true, false}
 use mathlib.Core.Option.{Option, none, some}
 use lib.ListN.{length}
-use lib.Dec.{leb}
 use Rattle.rules.specs.Syntax as Syntax
 use Rattle.rules.specs.Syntax.{ResolvedType}
 use Rattle.rules.specs.Good.{Good}
 use Rattle.type_words.specs.declared.HeldType.{HeldType}
-use Rattle.type_words.specs.declared.Grown.{Grown}
 use Rattle.type_words.specs.declared.MaybeType.{MaybeType}
 use Rattle.type_words.specs.Runs.{held-run}
 
@@ -24,11 +22,6 @@ pub record Holds (names : ℕ) (h : HeldType) (t : ResolvedType) : Type 0 where
 abbrev pub MaybeHolds : ℕ → MaybeType → Option ResolvedType → Type 0
 MaybeHolds names m none = m .some ≡ false
 MaybeHolds names m (some t) = (m .some ≡ true) × Holds names (m .ty) t
-
--- r holds the type t where its run has at most 64 words, and is not ok where it has more
-pub record Built (names : ℕ) (r : Grown) (t : ResolvedType) : Type 0 where
-  pub ok : r .ok ≡ leb (length (Syntax.run t)) 64
-  pub holds : r .ok ≡ true → Holds names (r .ty) t
 
 -- a property of every type that h holds
 abbrev pub Each : HeldType → (ResolvedType → Type 0) → Type 0

@@ -1,4 +1,4 @@
--- Laws of what specs/Puts.antt defines.
+-- Laws: writing words into a list of bytes, below a limit.
 use mathlib.Core.Path.{_≡_, refl, ap, _∙_, sym}
 use Prim.Native.Nat.{ℕ, suc, _+_, _*_, _<_, _≤_}
 use native.Mathlib.Omega.{arith}

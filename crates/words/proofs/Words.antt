@@ -1,4 +1,4 @@
--- Laws of what specs/Words.antt defines.
+-- Little-endian words of a list of bytes, by the rules' definitions of words and of their bytes.
 use mathlib.Core.Path.{_≡_, refl, ap, _∙_}
 use Prim.Native.Nat.{ℕ, zero, suc, _+_, _*_, _/_, _%_, _<_, _≤_, _^_}
 use native.Mathlib.Omega.{arith}

@@ -1,4 +1,4 @@
--- Little-endian words of a list of bytes, by the rules' definitions of words and of their bytes.
+-- Little-endian words of a list of bytes.
 use Prim.Native.Nat.{ℕ, _+_, _*_}
 use mathlib.Core.List.{List}
 use lib.ListN.{getD}

@@ -1,4 +1,4 @@
-// The type of an expression before it is typed: found along its left spine, so that no subtree is typed again.
+// The type of an accepted expression, before its operands are written: found along its left spine, so that no subtree is typed again.
 use image_layout::Layout;
 use infer_context::Context;
 use rules::ids::PrimitiveType;

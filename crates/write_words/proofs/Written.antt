@@ -1,4 +1,4 @@
--- Laws of what specs/Written.antt defines.
+-- Laws: words written one after the other, as one run.
 use Prim.Native.Nat.{ℕ, _+_, _*_, _<_, _≤_}
 use native.Mathlib.Omega.{arith}
 use native.Mathlib.Numerals.{add-one}

@@ -63,7 +63,7 @@ pub fn put_words(
             next,
             image_words::section_word(image, pool, from),
         );
-        from = message_fields::after(pool, from);
+        from = image_words::after(pool, from);
         i += 1;
     }
     next

@@ -1,13 +1,13 @@
--- `project_list::one::project_one` meets its contract. Assumes nothing.
+-- `project_functions::one::project_one` meets its contract. Assumes nothing.
 use borrow.Author.Needs.{needs}
 use mathlib.Core.Path.{refl, sym, ap, _∙_}
 use native.Mathlib.Omega.{arith}
 use borrow.Author.Tests.{not-true, not-false}
 use Rattle.answers.specs.Refusals.{refusal-of}
-use Rattle.project_list.proofs.Entering.{small, params-here, few, table, return-here, holds}
-use Rattle.project_list.proofs.OneFunction.{missing, hit, not-alike, alike, in-context, body-at, name-is}
-use Rattle.project_list.proofs.one.project_one.Statement.{statement}
-use Rattle.project_list.proofs.one.project_one.Tie as tie
+use Rattle.project_functions.proofs.Entering.{small, params-here, few, table, return-here, holds}
+use Rattle.project_functions.proofs.OneFunction.{missing, hit, not-alike, alike, in-context, body-at, name-is}
+use Rattle.project_functions.proofs.one.project_one.Statement.{statement}
+use Rattle.project_functions.proofs.one.project_one.Tie as tie
 
 pub project-one-spec : {M : Type 1} → statement M
 project-one-spec =

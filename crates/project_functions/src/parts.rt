@@ -22,6 +22,6 @@ pub fn functions_start(image: &[u8], l: Layout, at: usize) -> usize
 {
     let pool = l.pool;
     let count = image_words::section_word(image, pool, at);
-    let place = message_fields::after(pool, at);
+    let place = image_words::after(pool, at);
     skip_types::skip_types(image, pool, place, count)
 }

@@ -1,4 +1,4 @@
--- `project_list::list::project_list` meets its contract. The loop's invariant: those made are written, and the signatures that are left decide. Assumes nothing.
+-- `project_functions::list::project_list` meets its contract. The loop's invariant: those made are written, and the signatures that are left decide. Assumes nothing.
 use borrow.Author.Needs.{needs}
 use Prim.Native.Nat.{_-_}
 use mathlib.Core.Path.{_≡_, refl, _∙_}
@@ -6,10 +6,10 @@ use native.Mathlib.Omega.{arith}
 use borrow.Author.Tests.{not-true, not-false}
 use lib.ListN.{length}
 use Rattle.expected_signature.proofs.Places.{pool-small}
-use Rattle.project_list.specs.Asked.{All}
-use Rattle.project_list.proofs.ListTurns.{Left, start, turn-here, turn-refused, turn-goes, ended}
-use Rattle.project_list.proofs.list.project_list.Statement.{statement}
-use Rattle.project_list.proofs.list.project_list.Tie as tie
+use Rattle.project_functions.specs.Asked.{All}
+use Rattle.project_functions.proofs.ListTurns.{Left, start, turn-here, turn-refused, turn-goes, ended}
+use Rattle.project_functions.proofs.list.project_list.Statement.{statement}
+use Rattle.project_functions.proofs.list.project_list.Tie as tie
 
 abbrev Inv-loop : tie.InvT-loop
 Inv-loop image l at params places parts out₀ limit to count place₀ next₀ i₀ out place next i = (length out ≡ length out₀) × ((h : All image l params at) → Left h places parts limit place₀ out₀ i next place out)

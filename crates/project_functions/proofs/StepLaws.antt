@@ -18,7 +18,7 @@ use Rattle.rules.specs.Project.{find-function, project-list}
 use Rattle.rules.specs.Output.{each, listed, signature-words, statement-words, function-words, functions-words}
 use Rattle.project_function.specs.Made.{body-words-of}
 use Rattle.project_outcome.proofs.Coming.{behind}
-use Rattle.project_list.specs.Steps.{project-one, one-words, list-words}
+use Rattle.project_functions.specs.Steps.{project-one, one-words, list-words}
 
 -- the function that was found has the name
 pub found-name : (x : ℕ) (fs : List ImplFnDef) {f : ImplFnDef} → find-function x fs ≡ some f → x ≡ f .name

@@ -19,8 +19,8 @@ use Rattle.expected_signature.proofs.Places.{pool-small}
 use Rattle.expected_locals.specs.declared.Entered.{Entered}
 use Rattle.expected_locals.specs.declared.Returned.{Returned}
 use Rattle.expected_locals.specs.Entered.{Entered-done, Entered-agrees, Entered-says, Returned-done, Returned-agrees, Returned-says}
-use Rattle.project_list.specs.Asked.{One}
-use Rattle.project_list.proofs.Resolved.{Resolved, resolved}
+use Rattle.project_functions.specs.Asked.{One}
+use Rattle.project_functions.proofs.Resolved.{Resolved, resolved}
 
 -- as many parameters as expressions
 module _ (schema : CompiledSchema) (seen : List (Param ResolvedType)) where

@@ -13,7 +13,7 @@ use Rattle.message_fields.specs.Fields.{Fields}
 use Rattle.expected_signature.specs.Here.{Function-here}
 use Rattle.expected_functions.specs.Asked as expected
 use Rattle.impl_functions.specs.Functions.{Functions-here, Placed}
-use Rattle.project_list.specs.declared.parts.Parts.{Parts}
+use Rattle.project_functions.specs.declared.parts.Parts.{Parts}
 
 module _ (image : List ℕ) (l : Layout) where
   -- the implementation's functions, the message's fields and the target type stand from these places on

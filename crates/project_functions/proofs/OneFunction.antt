@@ -25,12 +25,12 @@ use Rattle.impl_rows.proofs.Has.{Has, has, lacks}
 use Rattle.project_function.specs.Made.{body-words-of}
 use Rattle.project_outcome.proofs.Coming.{comes-same, comes-err, comes-behind}
 use Rattle.impl_functions.specs.Functions.{Function-here}
-use Rattle.project_list.specs.declared.parts.Parts.{Parts}
-use Rattle.project_list.specs.Steps.{one-words}
-use Rattle.project_list.specs.Asked.{Stand, One}
-use Rattle.project_list.proofs.StepLaws.{found-name, context, one-missing, one-refused, one-goes}
+use Rattle.project_functions.specs.declared.parts.Parts.{Parts}
+use Rattle.project_functions.specs.Steps.{one-words}
+use Rattle.project_functions.specs.Asked.{Stand, One}
+use Rattle.project_functions.proofs.StepLaws.{found-name, context, one-missing, one-refused, one-goes}
 use Rattle.project_outcome.proofs.Passing.{not-passed, was-passed}
-use Rattle.project_list.proofs.Entering.{same-name}
+use Rattle.project_functions.proofs.Entering.{same-name}
 
 module _ {image : List ℕ} {l : Layout} {params : List ℕ} {at : ℕ} (k : One image l params at) (impl : ImplDef) (message : MessageDef)
     {name : ℕ} (named : name ≡ k .here .tree .name) {g : Found} (found : Finds (Function-here image l) (find-function name (impl .functions)) g) where

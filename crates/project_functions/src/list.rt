@@ -5,8 +5,8 @@ use image_layout::Layout;
 ghost use Prim.Native.Nat.{_≤_};
 ghost use lib.ListN.{length};
 ghost use Rattle.image_layout.specs.Rows.{Cut};
-ghost use Rattle.project_list.specs.Asked.{All};
-ghost use Rattle.project_list.specs.Contracts.{ProjectsList};
+ghost use Rattle.project_functions.specs.Asked.{All};
+ghost use Rattle.project_functions.specs.Contracts.{ProjectsList};
 
 // Their count, and each one of the trait functions at `at`; the implementation's functions stand at these places.
 pub fn project_list(

@@ -1,13 +1,13 @@
--- What functions of this crate ensure, where a line of the contract would not hold it.
+-- Contracts that are too long for a line, each called after its function.
 use Prim.Native.Nat.{ℕ}
 use mathlib.Core.List.{List}
 use Rattle.answers.specs.declared.answer.Outcome.{Outcome}
 use Rattle.image_layout.specs.declared.Layout.{Layout}
 use Rattle.project_outcome.specs.Outcomes.{Comes-to}
 use Rattle.rules.specs.Syntax.{MessageDef, ImplDef}
-use Rattle.project_list.specs.Asked.{Stand, All, One}
-use Rattle.project_list.specs.Steps.{list-words, one-words}
-use Rattle.project_list.specs.declared.parts.Parts.{Parts}
+use Rattle.project_functions.specs.Asked.{Stand, All, One}
+use Rattle.project_functions.specs.Steps.{list-words, one-words}
+use Rattle.project_functions.specs.declared.parts.Parts.{Parts}
 
 -- the words of the functions that the trait asks for, or the first refusal
 abbrev pub ProjectsList : List ℕ → Layout → ℕ → List ℕ → List ℕ → Parts → List ℕ → List ℕ → ℕ → ℕ → Outcome → Type 0

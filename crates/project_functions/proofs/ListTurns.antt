@@ -21,11 +21,11 @@ use Rattle.project_outcome.specs.Outcomes.{Comes-to}
 use Rattle.expected_signature.proofs.ParamLoop.{each-snoc}
 use Rattle.project_outcome.proofs.Coming.{comes-err, comes-ok, came-err, came-ok}
 use Rattle.impl_functions.specs.Functions.{Asked-here}
-use Rattle.project_list.specs.declared.parts.Parts.{Parts}
-use Rattle.project_list.specs.Steps.{one-words, list-words}
-use Rattle.project_list.specs.Asked.{Stand, One, All}
-use Rattle.project_list.proofs.Resolved.{First, first, none-left}
-use Rattle.project_list.proofs.StepLaws.{prepend, prepend-none, prepend-err, prepend-more, list-refused, list-more, list-done, list-stopped}
+use Rattle.project_functions.specs.declared.parts.Parts.{Parts}
+use Rattle.project_functions.specs.Steps.{one-words, list-words}
+use Rattle.project_functions.specs.Asked.{Stand, One, All}
+use Rattle.project_functions.proofs.Resolved.{First, first, none-left}
+use Rattle.project_functions.proofs.StepLaws.{prepend, prepend-none, prepend-err, prepend-more, list-refused, list-more, list-done, list-stopped}
 
 module _ {image : List ℕ} {l : Layout} {params : List ℕ} {at : ℕ} (h : All image l params at) (places : List ℕ) (parts : Parts) (limit from : ℕ) (old : List ℕ) where
   abbrev Functions : List TraitFnDef → ℕ → Type 0

@@ -12,8 +12,8 @@ use infer_context::Context;
 ghost use Prim.Native.Nat.{_≤_};
 ghost use lib.ListN.{length};
 ghost use Rattle.image_layout.specs.Rows.{Cut};
-ghost use Rattle.project_list.specs.Asked.{One};
-ghost use Rattle.project_list.specs.Contracts.{ProjectsOne};
+ghost use Rattle.project_functions.specs.Asked.{One};
+ghost use Rattle.project_functions.specs.Contracts.{ProjectsOne};
 
 // The trait function at `at`, with these type parameters in view, the implementation's functions at these places: 11, its signature, 12, its body.
 pub fn project_one(

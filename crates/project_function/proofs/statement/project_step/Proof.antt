@@ -1,15 +1,15 @@
--- `project_function::statement::project_statement` meets its contract. Assumes nothing.
+-- `project_function::statement::project_step` meets its contract. Assumes nothing.
 use borrow.Author.Needs.{needs}
 use mathlib.Core.Path.{refl, sym, ap, _∙_}
 use Rattle.rules.specs.Refusal.{in-function}
 use Rattle.answers.specs.Refusals.{refusal-of}
 use Rattle.project_let.specs.Agree.{Steps}
 use Rattle.project_function.proofs.Passes.{steps-assign, by-let, by-assign, by-other}
-use Rattle.project_function.proofs.statement.project_statement.Statement.{statement}
-use Rattle.project_function.proofs.statement.project_statement.Tie as tie
+use Rattle.project_function.proofs.statement.project_step.Statement.{statement}
+use Rattle.project_function.proofs.statement.project_step.Tie as tie
 
-pub project-statement-spec : {M : Type 1} → statement M
-project-statement-spec =
+pub project-step-spec : {M : Type 1} → statement M
+project-step-spec =
     tie.close
     (tie.spec
     (λ c κs. search needs)

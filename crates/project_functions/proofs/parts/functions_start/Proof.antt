@@ -1,10 +1,10 @@
--- `project_list::parts::functions_start` meets its contract: as many types are gone past as are counted. Assumes nothing.
+-- `project_functions::parts::functions_start` meets its contract: as many types are gone past as are counted. Assumes nothing.
 use borrow.Author.Needs.{needs}
 use native.Mathlib.Omega.{arith}
 use Rattle.image_words.proofs.Sections.{length-section}
-use Rattle.project_list.proofs.TypeArgs.{types-left}
-use Rattle.project_list.proofs.parts.functions_start.Statement.{statement}
-use Rattle.project_list.proofs.parts.functions_start.Tie as tie
+use Rattle.project_functions.proofs.TypeArgs.{types-left}
+use Rattle.project_functions.proofs.parts.functions_start.Statement.{statement}
+use Rattle.project_functions.proofs.parts.functions_start.Tie as tie
 
 pub functions-start-spec : {M : Type 1} → statement M
 functions-start-spec =
