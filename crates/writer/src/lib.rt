@@ -38,7 +38,7 @@ pub fn put_last<'a>(w: Writer<'a>, x: u32) -> usize
     put_at(&mut *w.out, next, x)
 }
 
-// Every word of the output passes here: slice and place in, next place out, and no caller holds a writer.
+// Every word that a pass writes goes through here: slice and place in, next place out, and no caller holds a writer.
 pub fn write(out: &mut [u8], to: usize, x: u32) -> usize
     requires { ⌜ to ≤ 1000000000 ⌝ }
     ensures { λ r. ⌜ (r ≡ to + 4) × (now (out .exit) ≡ put (length (now (out .entry))) to x (now (out .entry))) ⌝ }
