@@ -25,7 +25,7 @@ use Rattle.laws.proofs.Definitions.{message-exact, generic-alias-exact,
 use Rattle.laws.specs.GoodSchema.{most-words, GoodName, GoodDefinition, GoodSchema}
 
 -- what a definition has in the pool
-abbrev definition-words : TypeDef → List ℕ
+abbrev pub definition-words : TypeDef → List ℕ
 definition-words TypeDef.other = []
 definition-words (TypeDef.message m) = message-words m
 definition-words (TypeDef.generic-alias a) = generic-alias-words a

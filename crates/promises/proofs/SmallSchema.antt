@@ -2,7 +2,8 @@
 use Prim.Native.Nat.{_<_}
 use Rattle.rules.specs.Syntax.{ResolvedType, run, Param, Name, TypeDef, CompiledSchema}
 use Rattle.rules.specs.Good.{All, AllOption}
-use Rattle.laws.specs.DefinitionRuns.{typed-words, definition-words}
+use Rattle.laws.specs.DefinitionRuns.{typed-words}
+use Rattle.laws.proofs.Schema.{definition-words}
 use Rattle.promises.proofs.Small.{WORD, Small}
 
 abbrev pub SmallType : ResolvedType → Type 0
