@@ -7,6 +7,9 @@ ghost use Rattle.rules.specs.ReadBodies.{exprs, expr-node, expr-tree, expressio
 ghost use Rattle.rules.specs.declared.kinds.ExprKind.the-variants.{Call, TraitMethodCall};
 ghost use Rattle.image_words.specs.Verdict.{section-words, Lies, Says, After};
 
+// A call has fewer arguments than this.
+const ARGUMENTS: u32 = 33;
+
 // So many expressions, each nested at most `nesting` deep.
 pub fn check_exprs(
     image: &[u8],
@@ -50,7 +53,7 @@ pub fn check_call(
         return h;
     }
     let n = h.next;
-    let k = image_words::check_below(image, pool, n, 33);
+    let k = image_words::check_below(image, pool, n, ARGUMENTS);
     if !k.ok {
         return k;
     }
@@ -88,7 +91,7 @@ pub fn check_method(
         return h;
     }
     let n = h.next;
-    let k = image_words::check_below(image, pool, n, 33);
+    let k = image_words::check_below(image, pool, n, ARGUMENTS);
     if !k.ok {
         return k;
     }

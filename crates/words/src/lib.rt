@@ -18,10 +18,11 @@ pub fn whole_word(image: &[u8], at: usize) -> u32
     requires { ⌜ at + 4 ≤ length (now image) ⌝ }
     ensures { λ r. ⌜ r ≡ word-at (now (image .entry)) at ⌝ }
 {
-    byte(image, at)
-        + 256 * byte(image, at + 1)
-        + 65536 * byte(image, at + 2)
-        + 16777216 * byte(image, at + 3)
+    let a = byte(image, at);
+    let b = byte(image, at + 1);
+    let c = byte(image, at + 2);
+    let d = byte(image, at + 3);
+    a + 256 * b + 65536 * c + 16777216 * d
 }
 
 // The byte at i, or 0 past the end.
