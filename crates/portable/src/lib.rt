@@ -1,4 +1,6 @@
 // The public calls: an image, an implementation's number and two lent buffers in, an answer out.
+pub mod twice;
+
 use answers::answer::Answer;
 use call_answer::Call;
 use rules::ids::TypeId;

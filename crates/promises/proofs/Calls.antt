@@ -29,7 +29,7 @@ module _ (c : Made) (p : Projected c) where
   is-written = ap written (sym p)
 
 pub calls-same-bodies : CallsSameBodies
-calls-same-bodies c d p q e b zero zero′ same schema i j is-schema is-i is-j =
+calls-same-bodies c d p q b e zero zero′ same schema i j is-schema is-i is-j =
     same-bytes-same-bodies (c .image) (c .row) (d .row) (c .output-before) (d .output-before) (c .detail-before) (d .detail-before) b (is-zero c p zero)
     (subst (λ (image : List ℕ). project-answer image (d .row) (d .output-before) (d .detail-before) .number ≡ 0) (sym e) (is-zero d q zero′))
     (is-written c p ∙ same ∙ sym (is-written d q) ∙ ap (λ (image : List ℕ). written (project-answer image (d .row) (d .output-before) (d .detail-before))) (sym e))

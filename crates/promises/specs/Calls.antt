@@ -28,7 +28,7 @@ pub record Made : Type 0 where
   pub output : List ℕ
   pub detail : List ℕ
 
--- what `portable::project_impl` ensures of a call, on every input
+-- what `portable::project_impl` ensures of a call, on every input: `portable::twice` holds the two against each other
 abbrev pub Projected : Made → Type 0
 Projected c = answer-of (c .answer) (c .output) (c .detail) ≡ project-answer (c .image) (c .row) (c .output-before) (c .detail-before)
 
@@ -37,30 +37,40 @@ abbrev pub wrote : Made → List ℕ
 wrote c = take (c .answer .length) (c .output)
 
 -- 1. Two accepted calls on one image that wrote the same bytes, into outputs of any lengths, had the same bodies before them
-abbrev pub CallsSameBodies : Type 0
-CallsSameBodies =
-    (c d : Made) → Projected c → Projected d → c .image ≡ d .image → Bytes (c .image) → c .answer .number ≡ 0 → d .answer .number ≡ 0 → wrote c ≡ wrote d
+abbrev pub SameBodiesBefore : Made → Made → Type 0
+SameBodiesBefore c d =
+    c .image ≡ d .image → c .answer .number ≡ 0 → d .answer .number ≡ 0 → wrote c ≡ wrote d
     → (schema : CompiledSchema) (i j : ImplDef) → readable (c .image) ≡ some schema → find-implementation schema (c .row) ≡ ok i → find-implementation schema (d .row) ≡ ok j
     → SameBodies i j
 
--- 2. Of two accepted calls on any images, neither wrote the beginning alone of what the other wrote
+abbrev pub CallsSameBodies : Type 0
+CallsSameBodies = (c d : Made) → Projected c → Projected d → Bytes (c .image) → SameBodiesBefore c d
+
+-- 2. Of two accepted calls on any images, the first did not write the beginning alone of what the second wrote; c and d being any two, neither did
+abbrev pub NotTheBeginning : Made → Made → Type 0
+NotTheBeginning c d = c .answer .number ≡ 0 → d .answer .number ≡ 0 → (rest : List ℕ) → wrote c ++ rest ≡ wrote d → wrote c ≡ wrote d
+
 abbrev pub NoCallBeginsAnother : Type 0
-NoCallBeginsAnother =
-    (c d : Made) → Projected c → Projected d → Bytes (c .image) → Bytes (d .image) → c .answer .number ≡ 0 → d .answer .number ≡ 0
-    → (rest : List ℕ) → wrote c ++ rest ≡ wrote d → wrote c ≡ wrote d
+NoCallBeginsAnother = (c d : Made) → Projected c → Projected d → Bytes (c .image) → Bytes (d .image) → NotTheBeginning c d
 
 -- 3. Two calls on one image with equal room, for implementations that list the same functions in any order, are accepted together
-abbrev pub CallsTogether : Type 0
-CallsTogether =
-    (c d : Made) → Projected c → Projected d → c .image ≡ d .image → length (c .output-before) ≡ length (d .output-before) → length (c .detail-before) ≡ length (d .detail-before)
+abbrev pub AcceptedTogether : Made → Made → Type 0
+AcceptedTogether c d =
+    c .image ≡ d .image → length (c .output-before) ≡ length (d .output-before) → length (c .detail-before) ≡ length (d .detail-before)
     → (schema : CompiledSchema) (i j : ImplDef) → readable (c .image) ≡ some schema → find-implementation schema (c .row) ≡ ok i → find-implementation schema (d .row) ≡ ok j
     → Relisted i j → Together (answer-of (c .answer) (c .output) (c .detail)) (answer-of (d .answer) (d .output) (d .detail))
 
+abbrev pub CallsTogether : Type 0
+CallsTogether = (c d : Made) → Projected c → Projected d → AcceptedTogether c d
+
 -- Two calls with the same question give the same answer, and leave the same in both buffers
-abbrev pub OneAnswer : Type 0
-OneAnswer =
-    (c d : Made) → Projected c → Projected d → c .image ≡ d .image → c .row ≡ d .row → c .output-before ≡ d .output-before → c .detail-before ≡ d .detail-before
+abbrev pub AnsweredAlike : Made → Made → Type 0
+AnsweredAlike c d =
+    c .image ≡ d .image → c .row ≡ d .row → c .output-before ≡ d .output-before → c .detail-before ≡ d .detail-before
     → answer-of (c .answer) (c .output) (c .detail) ≡ answer-of (d .answer) (d .output) (d .detail)
+
+abbrev pub OneAnswer : Type 0
+OneAnswer = (c d : Made) → Projected c → Projected d → AnsweredAlike c d
 
 -- 01's whole case, the one P case that is an image: what the call answers of it, given room
 pub record AnswersWhole (c : Made) : Type 0 where
