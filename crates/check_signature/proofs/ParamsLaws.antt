@@ -5,17 +5,16 @@ use mathlib.Core.Bool.{true, false}
 use mathlib.Core.List.{List, [], _∷_}
 use native.Mathlib.Omega.{arith}
 use lib.ListN.{length, getD}
-use borrow.Author.Tests.{eq-eqb, ne-eqb}
 use Rattle.rules.specs.Syntax.{ResolvedType, run, Param}
 use Rattle.rules.specs.Types.{same-type}
-use Rattle.rules.specs.Refusal.{Result, _>>=_, ensure, with-detail}
+use Rattle.rules.specs.Refusal.{Result, _>>=_}
 use Rattle.rules.specs.CheckSignature.{check-params}
 use Rattle.type_words.specs.declared.HeldType.{HeldType}
 use Rattle.type_words.specs.Runs.{held-run}
 use Rattle.type_words.specs.Holds.{Holds}
 use Rattle.answers.specs.declared.answer.Outcome.{Outcome}
 use Rattle.answers.specs.Refusals.{refusal-of}
-use Rattle.project_outcome.specs.Outcomes.{Passes}
+use Rattle.project_outcome.specs.Outcomes.{Passes, First-refusal}
 use Rattle.image_words.specs.Gives.{Row}
 use Rattle.image_words.specs.Stands.{Stands}
 use Rattle.pool_types.specs.TypeAt.{Type-stands}
@@ -25,27 +24,19 @@ use Rattle.type_from_pool.specs.Held.{Types}
 use Rattle.locals.specs.Rows as table
 use Rattle.locals.specs.Rows.{Rows}
 use Rattle.check_signature.specs.Details.{type-detail}
-use Rattle.project_outcome.proofs.Passing.{passed, refused, nothing, stopped, passed-then, both-then}
-use Rattle.check_signature.specs.Params.{check-param}
+use Rattle.project_outcome.proofs.Passing.{refused, nothing, stopped, passed-then, both-then, in-order}
+use Rattle.check_signature.specs.Params.{check-name, check-type, check-param}
 
--- what is said of one, by the names and the types that were held
-module _ (f : ℕ) (a e : Param ResolvedType) (found wanted : ℕ) (x : found ≡ a .name) (y : wanted ≡ e .name) (r : Outcome) where
-  pub other-name : (found ≡ wanted → ⊥) → r .ok ≡ false → refusal-of (r .refusal) ≡ with-detail 6 f (2 ∷ wanted ∷ found ∷ []) → Passes (check-param f a e) r
-  unfolding check-param
-  other-name n o q = stopped _ _ r (refused _ _ r (ne-eqb _ _ (λ z. n (x ∙ z ∙ sym y))) o (q ∙ ap₂ (λ (v w : ℕ). with-detail 6 f (2 ∷ v ∷ w ∷ [])) y x)) o
+-- types that differ, by what was held of them
+pub other-type : (f name rows : ℕ) (a e : ResolvedType) (actual expected : HeldType) → Holds rows actual a → Holds rows expected e → (r : Outcome) → same-type a e ≡ false → r .ok ≡ false
+    → refusal-of (r .refusal) ≡ type-detail f name (held-run expected) (held-run actual) → Passes (check-type f name e a) r
+other-type f name rows a e actual expected h i r d o q = refused _ _ r d o (q ∙ ap₂ (λ (v w : List ℕ). type-detail f name v w) (i .run) (h .run))
 
-  module _ (n : found ≡ wanted) where
-    behind-name : Passes (ensure (same-type (a .ty) (e .ty)) (type-detail f (e .name) (run (e .ty)) (run (a .ty)))) r → Passes (check-param f a e) r
-    unfolding check-param ensure _>>=_
-    behind-name p = rw (eq-eqb (a .name) (e .name) (sym x ∙ n ∙ y)) p
-
-    pub other-type : (rows : ℕ) (actual expected : HeldType) → Holds rows actual (a .ty) → Holds rows expected (e .ty) → same-type (a .ty) (e .ty) ≡ false → r .ok ≡ false
-        → refusal-of (r .refusal) ≡ type-detail f wanted (held-run expected) (held-run actual) → Passes (check-param f a e) r
-    other-type rows actual expected h i d o q =
-        behind-name (refused _ _ r d o (q ∙ ap (λ (k : ℕ). type-detail f k (held-run expected) (held-run actual)) y ∙ ap₂ (λ (v w : List ℕ). type-detail f (e .name) v w) (i .run) (h .run)))
-
-    pub alike : same-type (a .ty) (e .ty) ≡ true → r .ok ≡ true → Passes (check-param f a e) r
-    alike t o = behind-name (passed _ _ r t o)
+-- the name, then the type, by the names as the code has them
+pub name-then-type : (f : ℕ) (a e : Param ResolvedType) {found wanted : ℕ} → found ≡ a .name → wanted ≡ e .name → {n t r : Outcome} → First-refusal n t r
+    → Passes (check-name f wanted found) n → Passes (check-type f wanted (e .ty) (a .ty)) t → Passes (check-param f a e) r
+unfolding check-param
+name-then-type f a e x y o p q = rw (← x, ← y) (in-order o p q)
 
 -- the first of some, and then the others
 pub first-then : (f : ℕ) (a e : Param ResolvedType) (ps es : List (Param ResolvedType)) → check-params f (a ∷ ps) (e ∷ es) ≡ (check-param f a e >>= λ _. check-params f ps es)

@@ -24,7 +24,7 @@ use Rattle.rules.specs.declared.ids.NameId.{NameId}
 use Rattle.type_words.specs.Holds.{MaybeHolds, Holds}
 use Rattle.type_words.specs.declared.HeldType.{HeldType}
 use Rattle.type_words.specs.declared.MaybeType.{MaybeType}
-use Rattle.check_signature.specs.Params.{check-param}
+use Rattle.check_signature.specs.Params.{check-type, check-param}
 
 -- the test of a function against the signature whose parameters are in the table
 abbrev pub ChecksSignature : List ℕ → Layout → ℕ → NameId → List ℕ → List ℕ → List ℕ → ℕ → MaybeType → Outcome → Type 0
@@ -38,6 +38,11 @@ abbrev pub WrongReturn : NameId → MaybeType → MaybeType → Refusal → Type
 WrongReturn function expected found r =
     (names : ℕ) (e a : Option ResolvedType) → MaybeHolds names expected e → MaybeHolds names found a
     → refusal-of r ≡ with-detail 6 (function .0) (4 ∷ (return-words e ++ return-words a))
+
+-- one parameter's types
+abbrev pub ChecksType : NameId → NameId → HeldType → HeldType → Outcome → Type 0
+ChecksType function wanted expected actual r =
+    (rows : ℕ) (a e : ResolvedType) → Holds rows actual a → Holds rows expected e → Passes (check-type (function .0) (wanted .0) e a) r
 
 -- one parameter's name, then its type
 abbrev pub ChecksParam : NameId → NameId → HeldType → NameId → HeldType → Outcome → Type 0

@@ -22,6 +22,7 @@ use Rattle.answers.proofs.Calls.{comes-err, comes-ok}
 use Rattle.project_outcome.specs.Outcomes.{Comes-to}
 use Rattle.expected_functions.specs.Asked.{in-words}
 use Rattle.project_outcome.proofs.Coming.{came-err, came-ok}
+use Rattle.project_outcome.proofs.Passing.{both-then}
 use Rattle.project_functions.specs.Steps.{list-words}
 use Rattle.project_impl.specs.Steps.{tested-words, found-words, projected-words}
 use Rattle.project_impl.specs.Asked.{Few}
@@ -63,25 +64,10 @@ module _ (impl : ImplDef) (message : MessageDef) (ss : List PortableSignature) w
   abbrev strangers : Result (Unit {0})
   strangers = no-stranger (map (λ s. s .name) ss) (impl .functions)
 
-  abbrev after-repeats : Result (Unit {0}) → Result (Unit {0}) → Result (List ℕ)
-  after-repeats r s = r >>= λ _. s >>= λ _. list-words impl message ss
-
-  by-tests : {r s : Result (Unit {0})} → no-repeat [] (impl .functions) ≡ r → strangers ≡ s → tested-words impl message ss ≡ after-repeats r s
+  -- 9 and 10, then the functions
+  pub tests-first : tested-words impl message ss ≡ ((no-repeat [] (impl .functions) >>= λ _. strangers) >>= λ _. list-words impl message ss)
   unfolding tested-words
-  by-tests e f = ap₂ after-repeats e f
-
-  -- 9, 10
-  pub has-repeat : {e : Refusal} → no-repeat [] (impl .functions) ≡ err e → tested-words impl message ss ≡ err e
-  unfolding _>>=_
-  has-repeat q = by-tests q refl
-
-  pub has-stranger : {e : Refusal} → no-repeat [] (impl .functions) ≡ ok tt → strangers ≡ err e → tested-words impl message ss ≡ err e
-  unfolding _>>=_
-  has-stranger q f = by-tests q f
-
-  pub all-tested : no-repeat [] (impl .functions) ≡ ok tt → strangers ≡ ok tt → tested-words impl message ss ≡ list-words impl message ss
-  unfolding _>>=_
-  all-tested q f = by-tests q f
+  tests-first = both-then (no-repeat [] (impl .functions)) strangers (list-words impl message ss)
 
 module _ (impl : ImplDef) (message : MessageDef) (schema : CompiledSchema) (trait : TraitDef) where
   abbrev after-expected : Result (ℕ × List PortableSignature) → Result (ℕ × List ℕ)

@@ -1,6 +1,7 @@
 // An implementation, its trait and its message, found in the pool.
 use answers::answer::Outcome;
 use image_layout::Layout;
+use project_functions::list::project_list;
 use project_functions::parts::Parts;
 ghost use Rattle.image_layout.specs.Rows.{Cut};
 ghost use Rattle.expected_functions.specs.Asked.{Asked};
@@ -8,7 +9,7 @@ ghost use Rattle.project_impl.specs.Asked.{Wanted};
 ghost use Rattle.project_impl.specs.Contracts.{ProjectsTested, ProjectsFound};
 
 // 9, then 10, then each function: of the trait at `start` with the type arguments at `types`, whose signatures are accepted.
-// One walk finds the places of the functions, for all three.
+// One walk finds the places of the functions, for all three; all three are asked, and then their order tells.
 fn project_tested(
     image: &[u8],
     l: Layout,
@@ -28,17 +29,17 @@ fn project_tested(
     let count = impl_functions::names::few(image_words::section_word(image, pool, functions));
     let places = &found[..count];
     let repeats = impl_functions::repeats::no_repeat(image, l, places);
-    if !repeats.ok {
-        return repeats;
-    }
     let strangers = impl_functions::strangers::no_stranger(image, l, asked, places);
-    if !strangers.ok {
-        return strangers;
-    }
+    let tests = project_outcome::first_refusal(repeats, strangers);
     let table = impl_rows::view::view(image, l, start + 1 + 1, types + 1, n);
     let params = &table[..66 * n];
     let limit = out.len();
-    project_functions::list::project_list(image, l, asked, params, places, parts, out, limit, 0)
+    let listed = project_list(image, l, asked, params, places, parts, out, limit, 0);
+    let r = project_outcome::first_refusal(tests, listed);
+    if !r.ok {
+        return r;
+    }
+    answers::answer::accepted(listed.length, 0)
 }
 
 // 6, 8 and 7 of the trait at `start` come before 9 and 10; the message's fields stand at `fields`, the target type at `target`.

@@ -1,13 +1,13 @@
--- A Let, by its name, its value and the row that it enters.
+-- A Let, by its tests and the row that it enters.
 use Prim.Native.Nat.{ℕ, _+_, _<_, _≤_}
 use mathlib.Core.Path.{_≡_, refl, sym, ap, subst, _∙_}
 use mathlib.Core.Bool.{true, false, not}
 use mathlib.Core.List.{List, [], _∷_, _++_}
-use mathlib.Core.Option.{Option, none, some}
+use mathlib.Core.Option.{Option}
 use lib.ListN.{length, getD}
-use Rattle.rules.specs.Syntax.{ResolvedType, run, Expr, Statement}
+use Rattle.rules.specs.Syntax.{ResolvedType, run, Expr, Statement, Param}
 use Rattle.rules.specs.Options.{is-some}
-use Rattle.rules.specs.Refusal.{Refusal, Result, ok, err, _>>=_, ensure, with-name}
+use Rattle.rules.specs.Refusal.{Refusal, Result, ok, err, _>>=_, with-name}
 use Rattle.rules.specs.Infer.{PortableExpr, type-of, FunctionContext, find-last, infer-expr}
 use Rattle.rules.specs.Bodies.{PortableStatement, with-local}
 use Rattle.rules.specs.Output.{value-words, statement-words}
@@ -29,9 +29,11 @@ use Rattle.infer_context.specs.declared.Context.{Context}
 use Rattle.infer_context.specs.InContext.{InContext}
 use Rattle.infer_context.specs.Stood.{Stood}
 use Rattle.project_let.specs.declared.Step.{Step}
-use Rattle.project_let.specs.Made.{Made, made-let, let-words}
+use Rattle.project_let.specs.Made.{Made, no-local, made-let, let-words}
 use Rattle.project_let.specs.Agree.{counted, Step-agrees, Steps}
-use Rattle.project_outcome.proofs.Said.{said-err, said-ok}
+use Rattle.answers.specs.declared.answer.Outcome.{Outcome}
+use Rattle.project_outcome.specs.Outcomes.{test-of, Passes, First-refusal}
+use Rattle.project_outcome.proofs.Passing.{passed, refused, not-passed, was-passed, in-order, all-refused, all-passed}
 
 -- name and type, then the value
 pub written-let : {limit to : ℕ} {xs ys zs us : List ℕ} {a b d : ℕ} (x : ℕ) (v : PortableExpr)
@@ -39,26 +41,45 @@ pub written-let : {limit to : ℕ} {xs ys zs us : List ℕ} {a b d : ℕ} (x : �
 unfolding let-words statement-words
 written-let {limit} {to} {xs} {ys} {zs} {us} {a} x v h t w = written-then limit to h (written-then limit a t w)
 
+-- 18, by the row k of the last local of that name
+module _ {rows : ℕ} {names words lens : List ℕ} {count x : ℕ} {ps : List (Param ResolvedType)} {k : ℕ} (w : Last rows names words lens count x ps k) (f : ℕ) (r : Outcome) where
+  pub local-seen : k < count → r .ok ≡ false → refusal-of (r .refusal) ≡ with-name 18 f x → Passes (no-local f x ps) r
+  unfolding is-some
+  local-seen h o q = refused _ _ r (ap (λ (u : Option ResolvedType). not (is-some u)) (w .found h .2)) o q
+
+  pub local-free : count ≤ k → r .ok ≡ true → Passes (no-local f x ps) r
+  unfolding is-some
+  local-free h o = passed _ _ r (ap (λ (u : Option ResolvedType). not (is-some u)) (w .missing h)) o
+
+-- what typing said of a value, as a test
+module _ (rows f : ℕ) (r : Inferred) (o : Outcome) where
+  pub value-refused : (p : Result PortableExpr) → Says rows f p r → (r .number ≡ 0 → ⊥) → (o .ok ≡ false) × (refusal-of (o .refusal) ≡ says.refusal-of f r) → Passes (test-of p) o
+  unfolding _>>=_
+  value-refused (ok v) h n d = absurd (n (h .0))
+  value-refused (err e) h n d = record { is = (d .0, d .1 ∙ h .1) }
+
+  pub value-passes : (p : Result PortableExpr) → Says rows f p r → r .number ≡ 0 → o .ok ≡ true → Passes (test-of p) o
+  unfolding _>>=_
+  value-passes (ok v) h n y = record { is = y }
+  value-passes (err e) h n y = absurd (h .0 n)
+
+-- 18, then the value
+abbrev let-tests : FunctionContext → ℕ → Option ResolvedType → Expr → Result (Unit {0})
+let-tests c x t e = no-local (c .function) x (c .locals) >>= λ _. test-of (infer-expr c e t 3)
+
+pub let-tested : (c : FunctionContext) (x : ℕ) (t : Option ResolvedType) (e : Expr) (rows : ℕ) {f : ℕ} → f ≡ c .function → (r : Inferred) {a b o : Outcome} → First-refusal a b o → Passes (no-local f x (c .locals)) a
+    → ((rows : ℕ) (p : Result PortableExpr) → Says rows f p r → Passes (test-of p) b) → Says rows (c .function) (infer-expr c e t 3) r → Passes (let-tests c x t e) o
+let-tested c x t e rows q r {a} first p v h =
+    in-order first (subst (λ (k : ℕ). Passes (no-local k x (c .locals)) a) q p) (v rows (infer-expr c e t 3) (subst (λ (k : ℕ). Says rows k (infer-expr c e t 3) r) (sym q) h))
+
 module _ (c : FunctionContext) (x : ℕ) (t : Option ResolvedType) (e : Expr) where
-  abbrev behind-name : Option ResolvedType → Result PortableExpr → Result Made
-  behind-name o p = ensure (not (is-some o)) (with-name 18 (c .function) x) >>= λ _. p >>= λ value. ok (PortableStatement.let-local x (type-of value) value, with-local c x (type-of value))
-
-  let-o : {o : Option ResolvedType} {p : Result PortableExpr} → find-last x (c .locals) ≡ o → infer-expr c e t 3 ≡ p → made-let c x t e ≡ behind-name o p
+  let-err : {z : Refusal} → let-tests c x t e ≡ err z → made-let c x t e ≡ err z
   unfolding made-let
-  let-o {o} {p} q i = ap (λ (o : Option ResolvedType). behind-name o (infer-expr c e t 3)) q ∙ ap (behind-name o) i
+  let-err h = all-refused _ _ _ h
 
-  -- 18
-  let-twice : {u : ResolvedType} → find-last x (c .locals) ≡ some u → made-let c x t e ≡ err (with-name 18 (c .function) x)
-  unfolding is-some ensure _>>=_
-  let-twice q = let-o q refl
-
-  let-err : find-last x (c .locals) ≡ none → {z : Refusal} → infer-expr c e t 3 ≡ err z → made-let c x t e ≡ err z
-  unfolding is-some ensure _>>=_
-  let-err q i = let-o q i
-
-  let-ok : find-last x (c .locals) ≡ none → {v : PortableExpr} → infer-expr c e t 3 ≡ ok v → made-let c x t e ≡ ok (PortableStatement.let-local x (type-of v) v, with-local c x (type-of v))
-  unfolding is-some ensure _>>=_
-  let-ok q i = let-o q i
+  let-ok : let-tests c x t e ≡ ok tt → (v : PortableExpr) × (infer-expr c e t 3 ≡ ok v) × (made-let c x t e ≡ ok (PortableStatement.let-local x (type-of v) v, with-local c x (type-of v)))
+  unfolding made-let
+  let-ok h = all-passed _ _ _ h
 
 same-let : (c : FunctionContext) (t : Option ResolvedType) (e : Expr) (x z : ℕ) → z ≡ x → made-let c x t e ≡ made-let c z t e
 same-let c t e x z q = ap (λ (j : ℕ). made-let c j t e) (sym q)
@@ -81,28 +102,26 @@ module _ (image : List ℕ) (l : Layout) (names words lens : List ℕ) (y : Cont
     steps-same : {made other : Result Made} → made ≡ other → Step-agrees image l names' words' lens' y limit to old new s 1 other → Steps image l names' words' lens' y limit to old new s 1 made
     steps-same q h = record { is = subst (Step-agrees image l names' words' lens' y limit to old new s 1) (sym q) h }
 
-    -- k is the row of the last local of that name, or none; z is the name as the code reads it
-    module _ {x : ℕ} (z : ℕ) (q : z ≡ x) (t : Option ResolvedType) (e : Expr) (k : ℕ) (w : Last (l .names .rows) names words lens (y .count) z (c .locals) k) where
-      pub let-seen : k < y .count → s .done .ok ≡ false → refusal-of (s .done .refusal) ≡ with-name 18 (c .function) z → Steps image l names' words' lens' y limit to old new s 1 (made-let c x t e)
-      let-seen h f r = steps-same (same-let c t e _ z q ∙ let-twice c z t e (w .found h .2)) (f, r)
+    -- z is the name as the code reads it, o what the tests came to
+    module _ {x : ℕ} {z : ℕ} (q : z ≡ x) (t : Option ResolvedType) (e : Expr) {o : Outcome} (p : Passes (let-tests c z t e) o) where
+      pub let-refused : o .ok ≡ false → s .done ≡ o → Steps image l names' words' lens' y limit to old new s 1 (made-let c x t e)
+      let-refused n d = steps-same (same-let c t e _ z q ∙ let-err c z t e (not-passed p n)) (rw d (n, refl))
 
-      module _ (r : Inferred) (h : Says (l .names .rows) (c .function) (infer-expr c e t 3) r) (m : y .count ≤ k) where
-        pub let-refused : (r .number ≡ 0 → ⊥) → {f : ℕ} → f ≡ c .function → (s .done .ok ≡ false) × (refusal-of (s .done .refusal) ≡ says.refusal-of f r) → Steps image l names' words' lens' y limit to old new s 1 (made-let c x t e)
-        let-refused n f d = steps-same (same-let c t e _ z q ∙ let-err c z t e (w .missing m) (said-err _ _ _ r h n)) (d .0, d .1 ∙ ap (λ (k : ℕ). says.refusal-of k r) f)
-
-        pub let-entered : r .number ≡ 0 → {d : ℕ} → ((v : PortableExpr) → infer-expr c e t 3 ≡ ok v → Runs (r .ty) (run (type-of v)) → Written limit to (let-words z v) old d new)
-            → ((u : ResolvedType) → Holds (l .names .rows) (r .ty) u → Rows (l .names .rows) names' words' lens' (y .count + 1) 0 (c .locals ++ (record { name = z; ty = u } ∷ [])))
-            → s .done .ok ≡ true → s .done .length ≡ d → s .count ≡ y .count + 1 → Steps image l names' words' lens' y limit to old new s 1 (made-let c x t e)
-        unfolding let-words
-        let-entered n {d} g a f o p =
-            let v = said-ok _ _ _ r h n in
-            let u = type-of (v .value) in
-            steps-same (same-let c t e _ z q ∙ let-ok c z t e (w .missing m) (v .is)) (
-              f,
-              p,
-              subst (λ (j : ℕ). Written limit to (let-words z (v .value)) old j new) (sym o) (g (v .value) (v .is) (held-runs (v .held))),
-              subst (λ (j : ℕ). InContext image l names' words' lens' (counted y j) (with-local c z u)) (sym p) (entered z u (a u (v .held))),
-            )
+      pub let-entered : o .ok ≡ true → (r : Inferred) → Says (l .names .rows) (c .function) (infer-expr c e t 3) r → {d : ℕ}
+          → ((v : PortableExpr) → infer-expr c e t 3 ≡ ok v → Runs (r .ty) (run (type-of v)) → Written limit to (let-words z v) old d new)
+          → ((u : ResolvedType) → Holds (l .names .rows) (r .ty) u → Rows (l .names .rows) names' words' lens' (y .count + 1) 0 (c .locals ++ (record { name = z; ty = u } ∷ [])))
+          → s .done .ok ≡ true → s .done .length ≡ d → s .count ≡ y .count + 1 → Steps image l names' words' lens' y limit to old new s 1 (made-let c x t e)
+      unfolding let-words
+      let-entered k r h {d} g a f m n =
+          let v = let-ok c z t e (was-passed p k) in
+          let u = type-of (v .0) in
+          let i : Says (l .names .rows) (c .function) (ok (v .0)) r = subst (λ (w : Result PortableExpr). Says (l .names .rows) (c .function) w r) (v .1) h in
+          steps-same (same-let c t e _ z q ∙ v .2) (
+            f,
+            n,
+            subst (λ (j : ℕ). Written limit to (let-words z (v .0)) old j new) (sym m) (g (v .0) (v .1) (held-runs (i .1))),
+            subst (λ (j : ℕ). InContext image l names' words' lens' (counted y j) (with-local c z u)) (sym n) (entered z u (a u (i .1))),
+          )
 
 -- where its parts stand
 module _ {rows strings : ℕ} {ws : List ℕ} {at n x : ℕ} {t : Option ResolvedType} {e : Expr} (s : Statement-stands rows strings ws (Statement.let-local x t e) at n) where

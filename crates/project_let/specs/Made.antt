@@ -3,7 +3,7 @@ use Prim.Native.Nat.{ℕ}
 use mathlib.Core.Bool.{not}
 use mathlib.Core.List.{List}
 use mathlib.Core.Option.{Option}
-use Rattle.rules.specs.Syntax.{ResolvedType, Expr}
+use Rattle.rules.specs.Syntax.{ResolvedType, Expr, Param}
 use Rattle.rules.specs.Options.{is-some}
 use Rattle.rules.specs.Refusal.{Result, ok, _>>=_, ensure, with-name}
 use Rattle.rules.specs.Infer.{PortableExpr, type-of, FunctionContext, find-last, infer-expr}
@@ -14,9 +14,13 @@ use Rattle.rules.specs.Output.{statement-words}
 abbrev pub Made : Type 0
 Made = PortableStatement × FunctionContext
 
+-- 18: no local in view has this name
+abbrev pub no-local : ℕ → ℕ → List (Param ResolvedType) → Result (Unit {0})
+no-local f x locals = ensure (not (is-some (find-last x locals))) (with-name 18 f x)
+
 unfoldable pub made-let : FunctionContext → ℕ → Option ResolvedType → Expr → Result Made
 made-let c x t e = do
-  _ ← ensure (not (is-some (find-last x (c .locals)))) (with-name 18 (c .function) x)
+  _ ← no-local (c .function) x (c .locals)
   value ← infer-expr c e t 3
   ok (PortableStatement.let-local x (type-of value) value, with-local c x (type-of value))
 

@@ -1,7 +1,6 @@
 // Lets: a value under the type written or its own, and a local more.
 use crate::written::written_type;
 use answers::answer::Outcome;
-use answers::refusal::Refusal;
 use image_layout::Layout;
 use infer_context::Context;
 use rules::ids::NameId;
@@ -12,6 +11,7 @@ ghost use lib.ListN.{length};
 ghost use Rattle.image_layout.specs.Rows.{Inside};
 ghost use Rattle.project_let.specs.Contracts.{WritesLet, ProjectsLet};
 
+mod tests;
 mod written;
 
 // What comes of one statement: its refusal, or where the next word goes; and how many locals are in view behind it.
@@ -90,11 +90,7 @@ pub fn project_let(
         return Step { done, count };
     }
     let name = NameId(infer_context::operand(image, l, at));
-    let row = locals::find_local(names, count, name);
-    if row < count {
-        let done = answers::answer::refused(Refusal::named(18, function, name));
-        return Step { done, count };
-    }
+    let free = crate::tests::no_local(names, count, function, name);
     let w = written_type(image, l, infer_context::first_part(l, at));
     let expected = w.ty;
     let value = w.next;
@@ -110,8 +106,9 @@ pub fn project_let(
         expected,
         LOCAL_BINDING,
     );
-    if r.number != 0 {
-        let done = project_outcome::refuse_value(function, r);
+    let typed = crate::tests::check_value(function, r);
+    let done = project_outcome::first_refusal(free, typed);
+    if !done.ok {
         return Step { done, count };
     }
     let ty = r.ty;

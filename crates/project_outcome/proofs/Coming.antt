@@ -8,7 +8,7 @@ use Rattle.answers.specs.declared.answer.Outcome.{Outcome}
 use Rattle.answers.specs.Refusals.{refusal-of}
 use Rattle.write_words.specs.Written.{Written}
 use Rattle.write_words.proofs.Written.{written-then}
-use Rattle.project_outcome.specs.Outcomes.{Words-agree, Comes-to}
+use Rattle.project_outcome.specs.Outcomes.{Passes-agrees, Passes, First-refusal, Words-agree, Comes-to}
 
 -- words before those of a part
 unfoldable pub behind : List ℕ → Result (List ℕ) → Result (List ℕ)
@@ -50,3 +50,23 @@ module _ {limit to : ℕ} {old new : List ℕ} {r : Outcome} where
       go : (part : Result (List ℕ)) → Words-agree part limit to old new r → (ws : List ℕ) × (part ≡ ok ws) × Written limit to ws old (r .length) new
       go (err e) h = absurd (false≢true (sym (h .0) ∙ q))
       go (ok ws) h = (ws, refl, h .1)
+
+-- a part behind a test: the refusal that comes first, or its words
+module _ {limit to : ℕ} {old new : List ℕ} {a b r : Outcome} (f : First-refusal a b r) {test : Result (Unit {0})} {part : Result (List ℕ)} (p : Passes test a) (c : Comes-to part limit to old new b) where
+  pub part-behind : Comes-to (test >>= λ _. part) limit to old new r
+  unfolding _>>=_
+  part-behind = go test (p .is)
+    where
+      go : (t : Result (Unit {0})) → Passes-agrees t a → Comes-to (t >>= λ _. part) limit to old new r
+      go (err e) h = record { is = subst (Passes-agrees (err e)) (sym (f .refuses (h .0))) h }
+      go (ok u) h = subst (Comes-to part limit to old new) (sym (f .passes h)) c
+
+  pub part-done : r .ok ≡ true → {o : Outcome} → o .ok ≡ true → o .length ≡ b .length → Comes-to (test >>= λ _. part) limit to old new o
+  unfolding _>>=_
+  part-done q {o} y e = go test (p .is)
+    where
+      go : (t : Result (Unit {0})) → Passes-agrees t a → Comes-to (t >>= λ _. part) limit to old new o
+      go (err x) h = absurd (false≢true (sym (h .0) ∙ sym (ap (λ (x : Outcome). x .ok) (f .refuses (h .0))) ∙ q))
+      go (ok u) h =
+          let w = came-ok c (sym (ap (λ (x : Outcome). x .ok) (f .passes h)) ∙ q) in
+          comes-ok (w .1) y (subst (λ (n : ℕ). Written limit to (w .0) old n new) (sym e) (w .2))
