@@ -38,6 +38,7 @@ pub fn edges() -> Vec<Edge> {
     edges.texts();
     edges.trailers();
     edges.lone_bounds();
+    edges.deep_cycles();
     edges.0
 }
 

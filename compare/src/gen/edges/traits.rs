@@ -15,6 +15,20 @@ impl Edges {
         self.implemented(label, rich, 2);
     }
 
+    /// A<T> = A<T> with as much around it as 64 words hold, and in its own argument: the deepest stacks of a call.
+    pub(super) fn deep_cycles(&mut self) {
+        for (label, one) in [("optionals", vec![64]), ("fixed-arrays", vec![66, 3, 0]), ("maps", vec![68, U8])] {
+            let cycle = [one.repeat(60 / one.len()), vec![50, M, 48, T]].concat();
+            let argument = [vec![50, M], one.repeat(58 / one.len()), vec![50, M, 48, T]].concat();
+            for (place, target) in [("in", cycle), ("argument-in", argument)] {
+                self.expression(&format!("alias-itself-{place}-{label}"), &[50, M, U8], |model| {
+                    let row = model.add_def(Def::Alias(vec![T], target));
+                    model.names[M as usize].def = row;
+                });
+            }
+        }
+    }
+
     pub(super) fn substitution(&mut self) {
         let sized = |edges: &mut Edges, label: &str, make: &dyn Fn(&mut Rng, &mut Model) -> Words| {
             let mut rich = tiny();
