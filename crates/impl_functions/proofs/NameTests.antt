@@ -1,10 +1,12 @@
 -- The loops over functions' names. Assumes nothing.
 use Prim.Native.Nat.{ℕ, _+_, _<_, _≤_}
-use mathlib.Core.Path.{_≡_, sym, ap, subst, _∙_}
+use mathlib.Core.Path.{_≡_, refl, sym, ap, subst, _∙_}
 use mathlib.Core.Bool.{true, false}
-use mathlib.Core.List.{List, [], _∷_, _++_, append-nil}
+use mathlib.Core.List.{List, [], _∷_, _++_, append-nil, map}
+use native.Mathlib.Omega.{arith}
 use lib.ListN.{length, getD, take, set}
-use lib.Seq.{append-snoc}
+use native.Mathlib.Numerals.{add-one}
+use lib.Seq.{append-snoc, take-suc}
 use Rattle.rules.specs.Words.{member}
 use Rattle.rules.specs.Syntax.{ImplFnDef, TraitFnDef}
 use Rattle.rules.specs.Refusal.{Result, in-function}
@@ -15,10 +17,17 @@ use Rattle.pool_definitions.proofs.Different.{take-more}
 use Rattle.answers.specs.declared.answer.Outcome.{Outcome}
 use Rattle.answers.specs.Refusals.{refusal-of}
 use Rattle.project_outcome.specs.Outcomes.{Passes-agrees, Passes}
-use Rattle.impl_functions.specs.Functions.{Function-here, Asked-here}
+use Rattle.impl_functions.specs.Functions.{Each-at, Function-here, Asked-here}
 use Rattle.impl_functions.proofs.Walk as walk
 use Rattle.impl_functions.proofs.PlaceTable.{Rest, turned, ended, passed}
 use Rattle.impl_functions.proofs.Members.{repeat-seen, repeat-new, stranger-known, stranger-found}
+
+abbrev pub own-names : List ImplFnDef → List ℕ
+own-names fs = map (λ f. f .name) fs
+
+-- one more from the front
+take-one : (xs : List ℕ) (i : ℕ) → i < length xs → take (i + 1) xs ≡ take i xs ++ (getD xs i 0 ∷ [])
+take-one xs i b = ap (λ (k : ℕ). take k xs) (add-one i) ∙ take-suc xs i 0 b
 
 passes : {test last : Result (Unit {0})} {r : Outcome} → last ≡ test → Passes-agrees last r → Passes test r
 passes {r = r} e a = record { is = subst (λ (t : Result (Unit {0})). Passes-agrees t r) e a }
@@ -48,20 +57,6 @@ module _ (image : List ℕ) (l : Layout) where
     Name-at place x = (f : ImplFnDef) (m : ℕ) → Function-here image l f place m → x ≡ f .name
 
     module _ (whole : Result (Unit {0})) {i : ℕ} where
-      module _ (xs : List ℕ) (w : Tested no-repeat whole xs i) where
-        module _ (b : i < length places) {x : ℕ} (name : Name-at (getD places i 0) x) where
-          pub seen-before : member x xs ≡ true → {r : Outcome} → r .ok ≡ false → refusal-of (r .refusal) ≡ in-function 9 x → Passes whole r
-          seen-before y {r} z e = turned _ _ _ w b (λ f fs m q s _.
-              passes (sym (repeat-seen xs f fs (ap (λ (k : ℕ). member k xs) (sym (name f m q)) ∙ y)) ∙ s) (z, e ∙ ap (in-function 9) (name f m q)))
-
-          pub not-seen : member x xs ≡ false → {ys : List ℕ} → ys ≡ xs ++ (x ∷ []) → Tested no-repeat whole ys (i + 1)
-          not-seen y {ys} e = turned _ _ _ w b (λ f fs m q s r. passed _ _ _ fs r
-              (ap (λ (zs : List ℕ). no-repeat zs fs) (e ∙ ap (λ (k : ℕ). xs ++ (k ∷ [])) (name f m q)) ∙ sym (repeat-new xs f fs (ap (λ (k : ℕ). member k xs) (sym (name f m q)) ∙ y)) ∙ s))
-
-        pub none-seen : length places ≤ i → {r : Outcome} → r .ok ≡ true → Passes whole r
-        unfolding no-repeat
-        none-seen b y = passes (ended _ _ _ w b) y
-
       module _ (xs : List ℕ) (w : Tested no-stranger whole xs i) where
         module _ (b : i < length places) {x : ℕ} (name : Name-at (getD places i 0) x) where
           pub not-known : member x xs ≡ false → {r : Outcome} → r .ok ≡ false → refusal-of (r .refusal) ≡ in-function 10 x → Passes whole r
@@ -74,3 +69,45 @@ module _ (image : List ℕ) (l : Layout) where
         pub all-known : length places ≤ i → {r : Outcome} → r .ok ≡ true → Passes whole r
         unfolding no-stranger
         all-known b y = passes (ended _ _ _ w b) y
+
+  -- the names of an implementation's functions, those that are left behind those in the table
+  abbrev pub Own-names : List ImplFnDef → List ℕ → List ℕ → ℕ → Type 0
+  Own-names fs places table i = Rest (Function-here image l) places (λ rest. take i table ++ own-names rest ≡ own-names fs) i
+
+  module _ (fs : List ImplFnDef) (places table : List ℕ) {i : ℕ} (w : Own-names fs places table i) where
+    pub own-named : i < length places → i < length table → {x : ℕ} → ((f : ImplFnDef) (m : ℕ) → Function-here image l f (getD places i 0) m → x ≡ f .name) → Own-names fs places (set table i x) (i + 1)
+    own-named b inside {x} name = turned _ _ _ w b (λ f rest m q s r. passed _ _ _ rest r
+        (ap (λ (xs : List ℕ). xs ++ own-names rest) (take-more table i x inside) ∙ append-snoc (take i table) x (own-names rest)
+        ∙ ap (λ (y : ℕ). take i table ++ (y ∷ own-names rest)) (name f m q) ∙ s))
+
+    pub all-own : length places ≤ i → i ≤ length places → take (length places) table ≡ own-names fs
+    all-own b c = let e : length places ≡ i = omega arith in ap (λ (k : ℕ). take k table) e ∙ sym (append-nil (take i table)) ∙ ended _ _ _ w b
+
+-- a test of functions by their names alone
+abbrev Called : ImplFnDef → ℕ → ℕ → Type 0
+Called f x m = x ≡ f .name
+
+called : (fs : List ImplFnDef) → Each-at Called fs (own-names fs)
+called [] = tt
+called (f ∷ fs) = (0, refl, called fs)
+
+module _ (names : List ℕ) (whole : Result (Unit {0})) where
+  abbrev pub Repeats : ℕ → Type 0
+  Repeats i = Rest Called names (λ rest. no-repeat (take i names) rest ≡ whole) i
+
+  pub none-yet : (fs : List ImplFnDef) → names ≡ own-names fs → no-repeat [] fs ≡ whole → Repeats 0
+  none-yet fs e s = passed _ _ _ fs (subst (Each-at Called fs) (sym e) (called fs)) s
+
+  module _ {i : ℕ} (w : Repeats i) where
+    module _ (b : i < length names) where
+      pub seen-before : member (getD names i 0) (take i names) ≡ true → {r : Outcome} → r .ok ≡ false → refusal-of (r .refusal) ≡ in-function 9 (getD names i 0) → Passes whole r
+      seen-before y {r} z e = turned _ _ _ w b (λ f fs m q s _.
+          passes (sym (repeat-seen (take i names) f fs (ap (λ (k : ℕ). member k (take i names)) (sym q) ∙ y)) ∙ s) (z, e ∙ ap (in-function 9) q))
+
+      pub not-seen : member (getD names i 0) (take i names) ≡ false → Repeats (i + 1)
+      not-seen y = turned _ _ _ w b (λ f fs m q s r. passed _ _ _ fs r
+          (ap (λ (zs : List ℕ). no-repeat zs fs) (take-one names i b ∙ ap (λ (k : ℕ). take i names ++ (k ∷ [])) q) ∙ sym (repeat-new (take i names) f fs (ap (λ (k : ℕ). member k (take i names)) (sym q) ∙ y)) ∙ s))
+
+    pub none-seen : length names ≤ i → {r : Outcome} → r .ok ≡ true → Passes whole r
+    unfolding no-repeat
+    none-seen b y = passes (ended _ _ _ w b) y

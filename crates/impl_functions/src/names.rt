@@ -1,12 +1,12 @@
-// The names of a trait's functions.
+// The names of functions, a trait's and an implementation's.
 use image_layout::Layout;
 ghost use mathlib.Core.Path.{_≡_};
 ghost use mathlib.Core.List.{List, map};
 ghost use Prim.Native.Nat.{ℕ, _≤_};
 ghost use lib.ListN.{length, take};
-ghost use Rattle.rules.specs.Syntax.{TraitFnDef};
+ghost use Rattle.rules.specs.Syntax.{ImplFnDef, TraitFnDef};
 ghost use Rattle.image_layout.specs.Rows.{Inside};
-ghost use Rattle.impl_functions.specs.Functions.{All-asked-here};
+ghost use Rattle.impl_functions.specs.Functions.{Placed, All-asked-here};
 
 // A count of functions, at most 64.
 pub fn few(n: u32) -> usize
@@ -29,6 +29,21 @@ pub fn function_names(image: &[u8], l: Layout, at: usize) -> [u32; 64]
         let name = crate::places::name_at(image, l, next);
         names[i] = name.0;
         next = crate::places::after_asked(image, l, next);
+        i += 1;
+    }
+    names
+}
+
+// The names of an implementation's functions at these places, from the table's start.
+pub fn own_names(image: &[u8], l: Layout, places: &[usize]) -> [u32; 64]
+    requires { ⌜ Inside (now image) l × (length (now places) ≤ 64) ⌝ }
+    ensures { λ r. ⌜ ((fs : List ImplFnDef) → Placed (now (image .entry)) l fs (now (places .entry)) → take (length (now (places .entry))) r ≡ map (λ f. f .name) fs) ⌝ }
+{
+    let mut names = [0u32; 64];
+    let mut i = 0;
+    while i < places.len() {
+        let name = crate::places::name_at(image, l, places[i]);
+        names[i] = name.0;
         i += 1;
     }
     names

@@ -1,10 +1,11 @@
 -- A trait's functions, projected one by one. Assumes nothing.
-use Prim.Native.Nat.{ℕ, _+_, _<_, _≤_}
+use Prim.Native.Nat.{ℕ, zero, suc, _+_, _<_, _≤_}
 use mathlib.Core.Path.{_≡_, refl, sym, ap, subst, _∙_}
 use mathlib.Core.Bool.{true, false}
-use mathlib.Core.List.{List, [], _∷_, _++_}
+use mathlib.Core.List.{List, [], _∷_, _++_, map}
 use native.Mathlib.Omega.{arith}
-use lib.ListN.{length, getD, length-append}
+use native.Mathlib.Numerals.{add-one}
+use lib.ListN.{length, getD, take, drop, length-append}
 use Rattle.rules.specs.Syntax.{MessageDef, TraitFnDef, ImplDef}
 use Rattle.rules.specs.Refusal.{ok}
 use Rattle.rules.specs.Signatures.{PortableSignature, expected-list}
@@ -23,11 +24,25 @@ use Rattle.project_outcome.proofs.Coming.{comes-err, comes-ok, came-err, came-o
 use Rattle.impl_functions.specs.Functions.{Asked-here}
 use Rattle.project_functions.specs.declared.parts.Parts.{Parts}
 use Rattle.project_functions.specs.Steps.{one-words, list-words}
-use Rattle.project_functions.specs.Asked.{Stand, One, All}
+use Rattle.project_functions.specs.Asked.{In-order, Stand, One, All}
 use Rattle.project_functions.proofs.Resolved.{First, first, none-left}
 use Rattle.project_functions.proofs.StepLaws.{prepend, prepend-none, prepend-err, prepend-more, list-refused, list-more, list-done, list-stopped}
 
-module _ {image : List ℕ} {l : Layout} {params : List ℕ} {at : ℕ} (h : All image l params at) (places : List ℕ) (parts : Parts) (limit from : ℕ) (old : List ℕ) where
+-- the functions from the i-th on: the first one's name is the i-th of the names, and the others come from the next on
+name-of-next : (fs : List TraitFnDef) (names : List ℕ) (i : ℕ) → In-order names fs → {f : TraitFnDef} {rest : List TraitFnDef} → drop i fs ≡ f ∷ rest → getD names i 0 ≡ f .name
+name-of-next [] names zero q e = absurd (let z : _≡_ {A = ℕ} 0 1 = cc in omega arith)
+name-of-next [] names (suc i) q e = absurd (let z : _≡_ {A = ℕ} 0 1 = cc in omega arith)
+name-of-next (g ∷ gs) [] i q e = absurd (let z : _≡_ {A = ℕ} 0 1 = cc in omega arith)
+name-of-next (g ∷ gs) (x ∷ xs) zero q {f} e = let a : x ≡ g .name = cc in let b : g ≡ f = cc in a ∙ ap (λ (k : TraitFnDef). k .name) b
+name-of-next (g ∷ gs) (x ∷ xs) (suc i) q e = let a : take (length gs) xs ≡ map (λ k. k .name) gs = cc in name-of-next gs xs i a e
+
+drop-next : (fs : List TraitFnDef) (i : ℕ) {f : TraitFnDef} {rest : List TraitFnDef} → drop i fs ≡ f ∷ rest → drop (suc i) fs ≡ rest
+drop-next [] zero e = absurd (let z : _≡_ {A = ℕ} 0 1 = cc in omega arith)
+drop-next [] (suc i) e = absurd (let z : _≡_ {A = ℕ} 0 1 = cc in omega arith)
+drop-next (g ∷ gs) zero e = cc
+drop-next (g ∷ gs) (suc i) e = drop-next gs i e
+
+module _ {image : List ℕ} {l : Layout} {params : List ℕ} {at : ℕ} (h : All image l params at) (names places : List ℕ) (parts : Parts) (limit from : ℕ) (old : List ℕ) where
   abbrev Functions : List TraitFnDef → ℕ → Type 0
   Functions fs next = Row (Asked-here image l) fs next (h .here .behind)
 
@@ -42,10 +57,11 @@ module _ {image : List ℕ} {l : Layout} {params : List ℕ} {at : ℕ} (h : All
     pub left : List TraitFnDef
     pub row : Functions left next
     pub many : i + length left ≡ length (h .here .tree)
+    pub from-i : drop i (h .here .tree) ≡ left
     pub visits : ℕ
     pub signatures : List PortableSignature
     pub is : expected-list (h .here .schema) (h .here .seen) left ≡ ok (visits, signatures)
-    pub made : (impl : ImplDef) (message : MessageDef) → Stand image l places parts impl message → Made impl message signatures i place new
+    pub made : In-order names (h .here .tree) → (impl : ImplDef) (message : MessageDef) → Stand image l places parts impl message → Made impl message signatures i place new
 
   pub start : Left 0 (at + 1) from old
   unfolding each
@@ -53,21 +69,22 @@ module _ {image : List ℕ} {l : Layout} {params : List ℕ} {at : ℕ} (h : All
     left = h .here .tree;
     row = h .here .stands .2;
     many = omega arith;
+    from-i = refl;
     visits = h .visits;
     signatures = h .signatures;
     is = h .is;
-    made = λ impl message s. record { functions = []; counted = refl; so = sym (prepend-none _); written = written-none limit from old };
+    made = λ named impl message s. record { functions = []; counted = refl; so = sym (prepend-none _); written = written-none limit from old };
   }
 
   module _ {i next place : ℕ} {new : List ℕ} (v : Left i next place new) where
     module _ (b : i < length (h .here .tree)) where
       -- the next one, its signature and the others
-      turn : {P : Type 0} → ((f : TraitFnDef) (fs : List TraitFnDef) → Functions (f ∷ fs) next → i + 1 + length fs ≡ length (h .here .tree) → First (h .here .schema) (h .here .seen) f fs (v .signatures) → P) → P
-      turn {P} k = go (v .left) (v .row) (v .many) (v .is)
+      turn : {P : Type 0} → ((f : TraitFnDef) (fs : List TraitFnDef) → Functions (f ∷ fs) next → i + 1 + length fs ≡ length (h .here .tree) → drop i (h .here .tree) ≡ f ∷ fs → First (h .here .schema) (h .here .seen) f fs (v .signatures) → P) → P
+      turn {P} k = go (v .left) (v .row) (v .many) (v .from-i) (v .is)
         where
-          go : (left : List TraitFnDef) → Functions left next → i + length left ≡ length (h .here .tree) → expected-list (h .here .schema) (h .here .seen) left ≡ ok (v .visits, v .signatures) → P
-          go [] r m e = absurd (omega arith)
-          go (f ∷ fs) r m e = k f fs r (omega arith) (first (h .here .schema) (h .here .seen) f fs e)
+          go : (left : List TraitFnDef) → Functions left next → i + length left ≡ length (h .here .tree) → drop i (h .here .tree) ≡ left → expected-list (h .here .schema) (h .here .seen) left ≡ ok (v .visits, v .signatures) → P
+          go [] r m w e = absurd (omega arith)
+          go (f ∷ fs) r m w e = k f fs r (omega arith) w (first (h .here .schema) (h .here .seen) f fs e)
 
       abbrev one : (f : TraitFnDef) (fs : List TraitFnDef) → Functions (f ∷ fs) next → First (h .here .schema) (h .here .seen) f fs (v .signatures) → One image l params next
       one f fs r d = record {
@@ -78,28 +95,29 @@ module _ {image : List ℕ} {l : Layout} {params : List ℕ} {at : ℕ} (h : All
       }
 
       pub turn-here : One image l params next
-      turn-here = turn (λ f fs r m d. one f fs r d)
+      turn-here = turn (λ f fs r m b d. one f fs r d)
 
-      module _ {newer : List ℕ} {r : Outcome} (p : (k : One image l params next) (impl : ImplDef) (message : MessageDef) → Stand image l places parts impl message → Comes-to (one-words impl message (k .signature)) limit place new newer r) where
-        pub turn-refused : r .ok ≡ false → (impl : ImplDef) (message : MessageDef) → Stand image l places parts impl message → {to : ℕ} {older : List ℕ} → Comes-to (list-words impl message (h .signatures)) limit to older newer r
-        turn-refused n impl message s = turn (λ f fs w m d.
-            let q = came-err (p (one f fs w d) impl message s) n in
-            let g = v .made impl message s in
+      module _ {newer : List ℕ} {r : Outcome} {name : ℕ} (is : name ≡ getD names i 0) (p : (k : One image l params next) → name ≡ k .here .tree .name → (impl : ImplDef) (message : MessageDef) → Stand image l places parts impl message → Comes-to (one-words impl message (k .signature)) limit place new newer r) where
+        pub turn-refused : r .ok ≡ false → In-order names (h .here .tree) → (impl : ImplDef) (message : MessageDef) → Stand image l places parts impl message → {to : ℕ} {older : List ℕ} → Comes-to (list-words impl message (h .signatures)) limit to older newer r
+        turn-refused n named impl message s = turn (λ f fs w m b d.
+            let q = came-err (p (one f fs w d) (is ∙ name-of-next (h .here .tree) names i named b) impl message s) n in
+            let g = v .made named impl message s in
             comes-err (list-stopped impl message (h .signatures) (g .functions) (g .so
             ∙ ap (λ (ss : List PortableSignature). prepend (g .functions) (project-list impl message ss)) (d .so)
             ∙ ap (prepend (g .functions)) (list-refused impl message (d .signature) (d .others) q) ∙ prepend-err (g .functions) _)) n refl)
 
         pub turn-goes : r .ok ≡ true → {k : ℕ} → ((f : TraitFnDef) (m : ℕ) → Asked-here image l f next m → k ≡ m) → Left (i + 1) k (r .length) newer
-        turn-goes y {k} behind = turn (λ f fs w m d. record {
+        turn-goes y {k} behind = turn (λ f fs w m b d. record {
           left = fs;
           row = subst (λ (n : ℕ). Functions fs n) (sym (behind f (w .0) (w .1))) (w .2);
           many = m;
+          from-i = ap (λ (j : ℕ). drop j (h .here .tree)) (add-one i) ∙ drop-next (h .here .tree) i b;
           visits = d .others-visits;
           signatures = d .others;
           is = d .others-is;
-          made = λ impl message s.
-              let q = came-ok (p (one f fs w d) impl message s) y in
-              let g = v .made impl message s in
+          made = λ named impl message s.
+              let q = came-ok (p (one f fs w d) (is ∙ name-of-next (h .here .tree) names i named b) impl message s) y in
+              let g = v .made named impl message s in
               let e = list-more impl message (d .signature) (d .others) (q .1) in
               let words : each function-words (g .functions ++ (e .0 ∷ [])) ≡ each function-words (g .functions) ++ q .0 =
               each-snoc function-words (g .functions) (e .0) ∙ ap (λ (ws : List ℕ). each function-words (g .functions) ++ ws) (sym (e .1)) in
@@ -116,9 +134,9 @@ module _ {image : List ℕ} {l : Layout} {params : List ℕ} {at : ℕ} (h : All
 
     -- none is left, and their count stands before them
     pub ended : {w to : ℕ} {older : List ℕ} → w ≡ getD (pool-words image l) at 0 → Written limit to (w ∷ []) older from old → w ≤ i → {o : Outcome} → o .ok ≡ true → o .length ≡ place
-        → (impl : ImplDef) (message : MessageDef) → Stand image l places parts impl message → Comes-to (list-words impl message (h .signatures)) limit to older new o
-    ended {w} {to} {older} e c b {o} y z impl message s =
-        let g = v .made impl message s in
+        → In-order names (h .here .tree) → (impl : ImplDef) (message : MessageDef) → Stand image l places parts impl message → Comes-to (list-words impl message (h .signatures)) limit to older new o
+    ended {w} {to} {older} e c b {o} y z named impl message s =
+        let g = v .made named impl message s in
         let many : i ≡ w = omega (arith, v .many, h .here .stands .0 .is, e) in
         comes-ok (list-done impl message (h .signatures) (g .functions) (g .so ∙ ap (λ (ss : List PortableSignature). prepend (g .functions) (project-list impl message ss)) none-there)) y
         (subst (λ (k : ℕ). Written limit to (length (g .functions) ∷ each function-words (g .functions)) older k new) (sym z)

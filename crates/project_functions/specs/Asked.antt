@@ -1,8 +1,9 @@
 -- What a projection is asked of: a trait's functions with the signatures that they come to, and an implementation's parts.
 use Prim.Native.Nat.{ℕ}
 use mathlib.Core.Path.{_≡_}
-use mathlib.Core.List.{List}
-use Rattle.rules.specs.Syntax.{MessageDef, ImplDef}
+use mathlib.Core.List.{List, map}
+use lib.ListN.{length, take}
+use Rattle.rules.specs.Syntax.{MessageDef, TraitFnDef, ImplDef}
 use Rattle.rules.specs.Refusal.{ok}
 use Rattle.rules.specs.Substitute.{done}
 use Rattle.rules.specs.Signatures.{PortableSignature, resolve-signature, expected-list}
@@ -14,6 +15,10 @@ use Rattle.expected_signature.specs.Here.{Function-here}
 use Rattle.expected_functions.specs.Asked as expected
 use Rattle.impl_functions.specs.Functions.{Functions-here, Placed}
 use Rattle.project_functions.specs.declared.parts.Parts.{Parts}
+
+-- the names of a trait's functions, in their order, from the table's start
+abbrev pub In-order : List ℕ → List TraitFnDef → Type 0
+In-order names fs = take (length fs) names ≡ map (λ f. f .name) fs
 
 module _ (image : List ℕ) (l : Layout) where
   -- the implementation's functions, the message's fields and the target type stand from these places on

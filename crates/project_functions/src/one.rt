@@ -9,17 +9,19 @@ use expected_locals::enter_return;
 use expected_locals::put_signature;
 use image_layout::Layout;
 use infer_context::Context;
+use rules::ids::NameId;
 ghost use Prim.Native.Nat.{_≤_};
 ghost use lib.ListN.{length};
 ghost use Rattle.image_layout.specs.Rows.{Cut};
 ghost use Rattle.project_functions.specs.Asked.{One};
 ghost use Rattle.project_functions.specs.Contracts.{ProjectsOne};
 
-// The trait function at `at`, with these type parameters in view, the implementation's functions at these places: 11, its signature, 12, its body.
+// The trait function at `at`, which has this name, with these type parameters in view, the implementation's functions at these places: 11, its signature, 12, its body.
 pub fn project_one(
     image: &[u8],
     l: Layout,
     at: usize,
+    name: NameId,
     params: &[u32],
     places: &[usize],
     parts: Parts,
@@ -28,9 +30,8 @@ pub fn project_one(
     to: usize,
 ) -> Outcome
     requires { ⌜ Cut (now image) l × One (now image) l (now params) at × (limit ≤ length (now out)) ⌝ }
-    ensures { λ r. ⌜ ProjectsOne (now (image .entry)) l at (now (params .entry)) (now (places .entry)) parts (now (out .entry)) (now (out .exit)) limit to r ⌝ }
+    ensures { λ r. ⌜ ProjectsOne (now (image .entry)) l at name (now (params .entry)) (now (places .entry)) parts (now (out .entry)) (now (out .exit)) limit to r ⌝ }
 {
-    let name = impl_functions::places::name_at(image, l, at);
     let f = impl_functions::search::find_function(image, l, places, name);
     if !f.ok {
         return answers::answer::refused(Refusal::at(11, name));

@@ -1,10 +1,11 @@
 -- A trait's functions with the type parameters in view, where its signatures are expected. Assumes nothing.
 use Prim.Native.Nat.{ℕ, _+_, _<_, _≤_}
-use mathlib.Core.Path.{_≡_, refl, sym, subst, _∙_}
+use mathlib.Core.Path.{_≡_, refl, sym, ap, subst, _∙_}
 use mathlib.Core.List.{List, _++_, map}
 use native.Mathlib.Omega.{arith}
 use native.Mathlib.Nat.{min-le-left}
 use lib.ListN.{length, getD, take, length-take}
+use lib.Seq.{length-take-le}
 use Rattle.rules.specs.Syntax.{MessageDef, ImplFnDef, ImplDef}
 use Rattle.rules.specs.Refusal.{Result}
 use Rattle.rules.specs.Substitute.{view}
@@ -85,6 +86,10 @@ stand {image} {l} {impl} b {k} e {table} placed {x} {count} is few =
 -- a lent table of at most 64
 pub few-places : (xs : List ℕ) {n : ℕ} → n ≤ 64 → length (take n xs) ≤ 64
 few-places xs {n} h = omega (arith, length-take n xs, min-le-left n (length xs))
+
+-- a table beside the first of 64 places
+pub own-here : (places table : List ℕ) → length places ≡ 64 → {n : ℕ} → n ≤ 64 → {xs : List ℕ} → take (length (take n places)) table ≡ xs → take n table ≡ xs
+own-here places table e {n} h q = ap (λ (k : ℕ). take k table) (sym (length-take-le n places (omega arith))) ∙ q
 
 -- none of the output was lent before
 pub untouched-to : (xs output : List ℕ) {part : Result (List ℕ)} {new : List ℕ} {r : Outcome} → length xs ≡ 0 → Comes-to part (length (xs ++ output)) 0 (xs ++ output) new r → Comes-to part (length output) 0 output new r

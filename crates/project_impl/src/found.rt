@@ -10,6 +10,7 @@ ghost use Rattle.project_impl.specs.Contracts.{ProjectsTested, ProjectsF
 
 // 9, then 10, then each function: of the trait at `start` with the type arguments at `types`, whose signatures are accepted.
 // One walk finds the places of the functions, for all three; all three are asked, and then their order tells.
+// The functions are gone through by the trait's names.
 fn project_tested(
     image: &[u8],
     l: Layout,
@@ -28,13 +29,26 @@ fn project_tested(
     let found = impl_functions::table::function_places(image, l, functions);
     let count = impl_functions::names::few(image_words::section_word(image, pool, functions));
     let places = &found[..count];
-    let repeats = impl_functions::repeats::no_repeat(image, l, places);
+    let own = impl_functions::names::own_names(image, l, places);
+    let wanted = impl_functions::names::function_names(image, l, asked);
+    let repeats = impl_functions::repeats::no_repeat(&own[..count]);
     let strangers = impl_functions::strangers::no_stranger(image, l, asked, places);
     let tests = project_outcome::first_refusal(repeats, strangers);
     let table = impl_rows::view::view(image, l, start + 1 + 1, types + 1, n);
     let params = &table[..66 * n];
     let limit = out.len();
-    let listed = project_list(image, l, asked, params, places, parts, out, limit, 0);
+    let listed = project_list(
+        image,
+        l,
+        asked,
+        &wanted,
+        params,
+        places,
+        parts,
+        out,
+        limit,
+        0,
+    );
     let r = project_outcome::first_refusal(tests, listed);
     if !r.ok {
         return r;

@@ -8,7 +8,7 @@ use lib.ListN.{length, getD}
 use Rattle.rules.specs.Syntax.{ResolvedType, run, Expr, Statement, Param}
 use Rattle.rules.specs.Options.{is-some}
 use Rattle.rules.specs.Refusal.{Refusal, Result, ok, err, _>>=_, with-name}
-use Rattle.rules.specs.Infer.{PortableExpr, type-of, FunctionContext, find-last, infer-expr}
+use Rattle.rules.specs.Infer.{PortableExpr, type-of, FunctionContext, infer-expr}
 use Rattle.rules.specs.Bodies.{PortableStatement, with-local}
 use Rattle.rules.specs.Output.{value-words, statement-words}
 use Rattle.type_words.specs.Runs.{Runs}

@@ -14,22 +14,20 @@ project-one-spec =
     tie.close
     (tie.spec
     (λ c κs. c .before .before .before .before .pre .0 .inside)
-    (λ c κs. c .before .before .before .before .before .pre .0 .inside)
     (λ c κs. search needs)
     (λ c κs. search needs)
-    (λ c. λ k impl message s. missing k impl message (c .before .before .before .before .before .name-at .ensures .1 _ _ (k .here .stands)) (c .before .before .before .before .find-function .ensures (impl .functions) (s .functions-at)) (not-true _ (c .before .before .if1 .taken)) (c .refused .ensures .0) (ap refusal-of (c .refused .ensures .1) ∙ c .before .at .ensures))
-    (λ c. omega (arith, small (c .before .before .before .before .before .before .before .before .pre .1) (c .before .before .before .before .before .before .before .before .pre .0 .inside)))
+    (λ c. λ k n impl message s. missing k impl message n (c .before .before .before .before .find-function .ensures (impl .functions) (s .functions-at)) (not-true _ (c .before .before .if1 .taken)) (c .refused .ensures .0) (ap refusal-of (c .refused .ensures .1) ∙ c .before .at .ensures))
+    (λ c. omega (arith, small (c .before .before .before .before .before .before .before .pre .1) (c .before .before .before .before .before .before .before .pre .0 .inside)))
     (λ c. search needs)
     (λ c. search needs)
     (λ c. search needs)
-    (λ c κs. (c .before .before .before .before .before .before .before .before .before .before .before .pre .0, params-here (c .before .before .before .before .before .before .before .before .before .before .before .pre .1), search needs, search needs, search needs))
-    (λ c κs. (c .before .before .before .before .before .before .before .before .before .before .before .before .before .before .before .pre .0, return-here (c .before .before .before .before .before .before .before .before .before .before .before .before .before .before .before .pre .1) (c .before .before .before .enter-params .ensures)))
+    (λ c κs. (c .before .before .before .before .before .before .before .before .before .before .pre .0, params-here (c .before .before .before .before .before .before .before .before .before .before .pre .1), search needs, search needs, search needs))
+    (λ c κs. (c .before .before .before .before .before .before .before .before .before .before .before .before .before .before .pre .0, return-here (c .before .before .before .before .before .before .before .before .before .before .before .before .before .before .pre .1) (c .before .before .before .enter-params .ensures)))
     (λ c. search needs)
     (λ c. search needs)
     (λ c. search needs)
-    (λ c κs. c .before .before .before .before .before .before .before .before .before .before .before .before .before .before .before .before .before .before .before .before .pre .0 .inside)
-    (λ c. λ k impl message s.
-    let n = c .before .before .before .before .before .before .before .before .before .before .before .before .before .before .before .before .before .before .name-at .ensures .1 _ _ (k .here .stands) in
+    (λ c κs. c .before .before .before .before .before .before .before .before .before .before .before .before .before .before .before .before .before .before .before .pre .0 .inside)
+    (λ c. λ k n impl message s.
     let f = c .before .before .before .before .before .before .before .before .before .before .before .before .before .before .before .before .before .find-function .ensures (impl .functions) (s .functions-at) in
     let y = not-false _ (c .before .before .before .before .before .before .before .before .before .before .before .before .before .before .before .if1 .left) in
     let h = hit k impl message n f y in
@@ -37,15 +35,14 @@ project-one-spec =
     (λ c. search needs)
     (λ c. search needs)
     (λ c. search needs)
-    (λ c κs. c .before .before .before .before .before .before .before .before .before .before .before .before .before .before .before .before .before .before .before .before .before .before .before .before .before .before .before .pre .2)
-    (λ c κs. c .before .before .before .before .before .before .before .before .before .before .before .before .before .before .before .before .before .before .before .before .before .before .before .before .before .before .before .before .before .before .pre .0 .inside)
+    (λ c κs. c .before .before .before .before .before .before .before .before .before .before .before .before .before .before .before .before .before .before .before .before .before .before .before .before .before .before .pre .2)
+    (λ c κs. c .before .before .before .before .before .before .before .before .before .before .before .before .before .before .before .before .before .before .before .before .before .before .before .before .before .before .before .before .before .pre .0 .inside)
     (λ c. omega (arith, c .before .before .before .before .before .before .before .before .before .before .before .before .before .before .before .before .before .before .before .before .enter-params .kept .1 .1 .1 .1 .0))
     (λ c. omega (arith, c .before .before .before .before .before .before .before .before .before .before .before .before .before .before .before .before .before .before .before .before .before .enter-params .kept .1 .1 .1 .1 .1 .0))
     (λ c. search needs)
-    (λ c κs. (c .before .before .before .before .before .before .before .before .before .before .before .before .before .before .before .before .before .before .before .before .before .before .before .before .before .before .before .before .before .before .before .before .before .before .before .pre .0 .inside, omega (arith, c .before .before .before .before .before .before .before .put-signature .kept .1 .1 .1 .1 .1 .1 .0, c .before .before .before .before .before .before .before .before .before .before .before .before .before .before .before .before .before .before .before .before .before .before .before .before .before .before .before .before .before .before .before .before .before .before .before .pre .2), omega (arith, c .before .before .before .before .before .before .before .before .before .before .before .before .before .before .before .before .before .before .before .before .before .before .before .enter-params .kept .1 .1 .1 .1 .0), omega (arith, c .before .before .before .before .before .before .before .before .before .before .before .before .before .before .before .before .before .before .before .before .before .before .before .enter-params .kept .1 .1 .1 .1 .1 .0), search needs, few (c .before .before .before .before .before .before .before .before .before .before .before .before .before .before .before .before .before .before .before .before .before .before .before .before .before .before .before .before .before .before .before .before .before .before .before .pre .1) (c .before .before .before .before .before .before .before .before .before .before .before .before .before .before .before .before .before .before .before .before .before .before .before .enter-params .ensures)))
+    (λ c κs. (c .before .before .before .before .before .before .before .before .before .before .before .before .before .before .before .before .before .before .before .before .before .before .before .before .before .before .before .before .before .before .before .before .before .before .pre .0 .inside, omega (arith, c .before .before .before .before .before .before .before .put-signature .kept .1 .1 .1 .1 .1 .1 .0, c .before .before .before .before .before .before .before .before .before .before .before .before .before .before .before .before .before .before .before .before .before .before .before .before .before .before .before .before .before .before .before .before .before .before .pre .2), omega (arith, c .before .before .before .before .before .before .before .before .before .before .before .before .before .before .before .before .before .before .before .before .before .before .before .enter-params .kept .1 .1 .1 .1 .0), omega (arith, c .before .before .before .before .before .before .before .before .before .before .before .before .before .before .before .before .before .before .before .before .before .before .before .enter-params .kept .1 .1 .1 .1 .1 .0), search needs, few (c .before .before .before .before .before .before .before .before .before .before .before .before .before .before .before .before .before .before .before .before .before .before .before .before .before .before .before .before .before .before .before .before .before .before .pre .1) (c .before .before .before .before .before .before .before .before .before .before .before .before .before .before .before .before .before .before .before .before .before .before .before .enter-params .ensures)))
     (λ c. search needs)
-    (λ c. λ k impl message s.
-    let n = c .before .before .before .before .before .before .before .before .before .before .before .before .before .before .before .before .before .before .before .before .before .before .before .before .before .before .before .before .before .before .before .before .before .before .before .before .name-at .ensures .1 _ _ (k .here .stands) in
+    (λ c. λ k n impl message s.
     let f = c .before .before .before .before .before .before .before .before .before .before .before .before .before .before .before .before .before .before .before .before .before .before .before .before .before .before .before .before .before .before .before .before .before .before .before .find-function .ensures (impl .functions) (s .functions-at) in
     let y = not-false _ (c .before .before .before .before .before .before .before .before .before .before .before .before .before .before .before .before .before .before .before .before .before .before .before .before .before .before .before .before .before .before .before .before .before .if1 .left) in
     let h = hit k impl message n f y in
