@@ -15,11 +15,18 @@ impl Edges {
         self.implemented(label, rich, 2);
     }
 
-    /// A<T> = A<T> with as much around it as 64 words hold, and in its own argument: the deepest stacks of a call.
+    /// A<T> = A<T> with as much around it as 64 words hold, and in its own argument: the deepest stacks of a call. A Map holds
+    /// the cycle as its first part, so that its second is still to come.
     pub(super) fn deep_cycles(&mut self) {
-        for (label, one) in [("optionals", vec![64]), ("fixed-arrays", vec![66, 3, 0]), ("maps", vec![68, U8])] {
-            let cycle = [one.repeat(60 / one.len()), vec![50, M, 48, T]].concat();
-            let argument = [vec![50, M], one.repeat(58 / one.len()), vec![50, M, 48, T]].concat();
+        for (label, before, after) in
+            [("optionals", vec![64], vec![]), ("fixed-arrays", vec![66, 3, 0], vec![]), ("maps", vec![68], vec![U8])]
+        {
+            let around = |words: usize, inner: &[u32]| {
+                let times = words / (before.len() + after.len());
+                [&before.repeat(times), inner, &after.repeat(times)].concat()
+            };
+            let cycle = around(60, &[50, M, 48, T]);
+            let argument = [vec![50, M], around(58, &[50, M, 48, T])].concat();
             for (place, target) in [("in", cycle), ("argument-in", argument)] {
                 self.expression(&format!("alias-itself-{place}-{label}"), &[50, M, U8], |model| {
                     let row = model.add_def(Def::Alias(vec![T], target));
