@@ -10,11 +10,14 @@ ghost use Rattle.rules.specs.Refusal.{refusal, in-function, with-name, with-det
 ghost use Rattle.type_words.specs.Runs.{held-run};
 ghost use Rattle.answers.specs.Refusals.{detail-of, refusal-of, adding};
 
+// Words of the longest detail: 6, kind 4, of two types.
+pub const DETAIL_WORDS: usize = 131;
+
 pub struct Refusal {
     pub number: u32,
     pub function: NameId,
     pub second: NameId,
-    pub words: [u32; 131],
+    pub words: [u32; DETAIL_WORDS],
     pub count: usize,
 }
 
@@ -41,7 +44,7 @@ impl Refusal {
             number,
             function,
             second,
-            words: [0u32; 131],
+            words: [0u32; DETAIL_WORDS],
             count: 0,
         }
     }
@@ -50,7 +53,7 @@ impl Refusal {
     pub fn counts(function: NameId, expected: u32, found: u32) -> Refusal
         ensures { λ r. ⌜ refusal-of r ≡ with-detail 6 (function .0) (0 ∷ expected ∷ found ∷ []) ⌝ }
     {
-        let mut words = [0u32; 131];
+        let mut words = [0u32; DETAIL_WORDS];
         words[1] = expected;
         words[2] = found;
         Refusal {
@@ -67,7 +70,7 @@ impl Refusal {
         ensures { λ r. ⌜ (length (detail-of self) < 131 → refusal-of r ≡ adding (refusal-of self) (w ∷ [])) ⌝ }
     {
         let n = self.count;
-        if 131 <= n {
+        if DETAIL_WORDS <= n {
             return self;
         }
         let mut words = self.words;
@@ -102,7 +105,7 @@ impl Refusal {
         ensures { λ r. ⌜ (r ≡ length (detail-of self)) × (r ≤ 131) ⌝ }
     {
         let n = self.count;
-        if n < 131 { n } else { 131 }
+        if n < DETAIL_WORDS { n } else { DETAIL_WORDS }
     }
 }
 

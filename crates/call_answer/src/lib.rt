@@ -1,4 +1,4 @@
-// The calls on a readable image: one code for all of them, told which is asked.
+// The calls: one code for all of them, told which is asked.
 use answers::answer::Answer;
 use answers::answer::Outcome;
 use answers::refusal::Refusal;
@@ -6,15 +6,16 @@ use image_layout::Layout;
 use impl_trait::Subject;
 use rules::ids::NameId;
 use rules::ids::TypeId;
+ghost use mathlib.Core.Path.{_≡_};
 ghost use Prim.Native.Nat.{_≤_};
 ghost use lib.ListN.{length};
 ghost use Rattle.rules.specs.Syntax.{CompiledSchema};
 ghost use Rattle.image_layout.specs.Rows.{Cut};
 ghost use Rattle.image_layout.specs.Open.{Open};
 ghost use Rattle.image_layout.specs.Opens.{Opens};
-ghost use Rattle.answers.specs.Answers.{Comes};
+ghost use Rattle.answers.specs.Answers.{answer-of, Comes};
 ghost use Rattle.impl_trait.specs.Subjects.{About};
-ghost use Rattle.call_answer.specs.Calls.{call-of};
+ghost use Rattle.call_answer.specs.Calls.{call-of, answer-for};
 ghost use Rattle.call_answer.specs.Contracts.{ComesAfterSubject, AnswersReadable};
 
 pub enum Call {
@@ -45,8 +46,11 @@ fn pass(call: Call, image: &[u8], l: Layout, number: TypeId, out: &mut [u8]) -> 
     after_subject(call, image, l, f, out)
 }
 
-// The answer. The first pass keeps its words; where they are too many for that, a second one writes them.
-pub fn answer_readable(
+// Bytes that the first pass keeps: what most outputs need.
+const FIRST_PASS: usize = 16384;
+
+// The answer on a readable image. The first pass keeps its words; where they are too many for that, a second one writes them.
+fn answer_readable(
     call: Call,
     image: &[u8],
     l: Layout,
@@ -57,7 +61,7 @@ pub fn answer_readable(
     requires { ⌜ Cut (now image) l × Opens (now image) l × (576 ≤ length (now detail)) ⌝ }
     ensures { λ r. ⌜ AnswersReadable call (now (image .entry)) l number (now (output .entry)) (now (output .exit)) (now (detail .entry)) (now (detail .exit)) r ⌝ }
 {
-    let mut first = [0u8; 16384];
+    let mut first = [0u8; FIRST_PASS];
     let m = pass(call, image, l, number, &mut first);
     let e = call_finish::finish(m, &first, output, detail);
     if e.done {
@@ -65,4 +69,22 @@ pub fn answer_readable(
     }
     let w = pass(call, image, l, number, output);
     answers::answer::accept(w.length as u32, w.visits)
+}
+
+// Either call, on every image: 1 and 2 come first.
+pub fn answer(
+    call: Call,
+    image: &[u8],
+    number: TypeId,
+    output: &mut [u8],
+    detail: &mut [u8],
+) -> Answer
+    ensures { λ r. ⌜ answer-of r (now (output .exit)) (now (detail .exit)) ≡ answer-for call (now (image .entry)) (number .0) (now (output .entry)) (now (detail .entry)) ⌝ }
+{
+    let f = call_open::look(image, detail.len());
+    if f.number != 0 {
+        return answers::answer::alone(f.number);
+    }
+    let l = f.layout;
+    answer_readable(call, image, l, number, output, detail)
 }

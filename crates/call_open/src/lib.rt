@@ -1,5 +1,6 @@
 // What both public calls do first.
 use image_layout::Layout;
+use rules::bounds::DETAIL_BYTES;
 ghost use Rattle.call_open.specs.Fronts.{Fronts};
 
 // What comes before a call: 1 or 2, or 0 and the readable image's layout.
@@ -12,7 +13,7 @@ pub struct Front {
 pub fn look(image: &[u8], lent: usize) -> Front
     ensures { λ r. ⌜ Fronts (now (image .entry)) lent r ⌝ }
 {
-    if lent < 576 {
+    if lent < DETAIL_BYTES {
         let none = image_sections::no_layout();
         let layout = none.layout;
         return Front { number: 1, layout };

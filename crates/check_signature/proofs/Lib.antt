@@ -1,4 +1,3 @@
 pub mod Ends
-pub mod Details
 pub mod ParamsLaws
 pub mod Whole

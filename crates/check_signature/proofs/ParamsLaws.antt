@@ -1,20 +1,17 @@
 -- Parameters against the rows of the table, one by one.
 use Prim.Native.Nat.{ℕ, _+_, _<_, _≤_}
-use mathlib.Core.Path.{_≡_, refl, sym, ap₂, subst, _∙_}
+use mathlib.Core.Path.{_≡_, refl, sym, subst, _∙_}
 use mathlib.Core.Bool.{true, false}
 use mathlib.Core.List.{List, [], _∷_}
 use native.Mathlib.Omega.{arith}
 use lib.ListN.{length, getD}
 use Rattle.rules.specs.Syntax.{ResolvedType, run, Param}
-use Rattle.rules.specs.Types.{same-type}
 use Rattle.rules.specs.Refusal.{Result, _>>=_}
 use Rattle.rules.specs.CheckSignature.{check-params}
 use Rattle.type_words.specs.declared.HeldType.{HeldType}
-use Rattle.type_words.specs.Runs.{held-run}
 use Rattle.type_words.specs.Holds.{Holds}
 use Rattle.answers.specs.declared.answer.Outcome.{Outcome}
-use Rattle.answers.specs.Refusals.{refusal-of}
-use Rattle.project_outcome.specs.Outcomes.{Passes, First-refusal}
+use Rattle.project_outcome.specs.Outcomes.{Passes}
 use Rattle.image_words.specs.Gives.{Row}
 use Rattle.image_words.specs.Stands.{Stands}
 use Rattle.pool_types.specs.TypeAt.{Type-stands}
@@ -23,20 +20,8 @@ use Rattle.type_from_pool.specs.declared.Held.{Held}
 use Rattle.type_from_pool.specs.Held.{Types}
 use Rattle.locals.specs.Rows as table
 use Rattle.locals.specs.Rows.{Rows}
-use Rattle.check_signature.specs.Details.{type-detail}
-use Rattle.project_outcome.proofs.Passing.{refused, nothing, stopped, passed-then, both-then, in-order}
-use Rattle.check_signature.specs.Params.{check-name, check-type, check-param}
-
--- types that differ, by what was held of them
-pub other-type : (f name rows : ℕ) (a e : ResolvedType) (actual expected : HeldType) → Holds rows actual a → Holds rows expected e → (r : Outcome) → same-type a e ≡ false → r .ok ≡ false
-    → refusal-of (r .refusal) ≡ type-detail f name (held-run expected) (held-run actual) → Passes (check-type f name e a) r
-other-type f name rows a e actual expected h i r d o q = refused _ _ r d o (q ∙ ap₂ (λ (v w : List ℕ). type-detail f name v w) (i .run) (h .run))
-
--- the name, then the type, by the names as the code has them
-pub name-then-type : (f : ℕ) (a e : Param ResolvedType) {found wanted : ℕ} → found ≡ a .name → wanted ≡ e .name → {n t r : Outcome} → First-refusal n t r
-    → Passes (check-name f wanted found) n → Passes (check-type f wanted (e .ty) (a .ty)) t → Passes (check-param f a e) r
-unfolding check-param
-name-then-type f a e x y o p q = rw (← x, ← y) (in-order o p q)
+use Rattle.project_outcome.proofs.Passing.{nothing, stopped, passed-then, both-then}
+use Rattle.check_types.specs.Params.{check-param}
 
 -- the first of some, and then the others
 pub first-then : (f : ℕ) (a e : Param ResolvedType) (ps es : List (Param ResolvedType)) → check-params f (a ∷ ps) (e ∷ es) ≡ (check-param f a e >>= λ _. check-params f ps es)

@@ -2,13 +2,11 @@
 use Prim.Native.Nat.{ℕ, _+_, _<_, _≤_}
 use mathlib.Core.Path.{_≡_, sym, ap, ap₂, subst, _∙_}
 use mathlib.Core.Bool.{true, false}
-use mathlib.Core.List.{List, [], _∷_, _++_}
-use mathlib.Core.Option.{Option}
+use mathlib.Core.List.{List, [], _∷_}
 use native.Mathlib.Omega.{arith}
 use lib.ListN.{length, getD}
 use borrow.Author.Tests.{eq-eqb, ne-eqb}
 use Rattle.rules.specs.Syntax.{ResolvedType, Param, ImplFnDef}
-use Rattle.rules.specs.Types.{same-return, return-words, normalize-return}
 use Rattle.rules.specs.Refusal.{Result, _>>=_, ensure, with-detail}
 use Rattle.rules.specs.Signatures.{PortableSignature}
 use Rattle.rules.specs.CheckSignature.{check-params, check-signature}
@@ -21,17 +19,8 @@ use Rattle.pool_types.specs.ParamAt.{Param-at}
 use Rattle.pool_definitions.specs.DefinitionAt.{Function-stands}
 use Rattle.locals.specs.Rows.{Rows}
 use Rattle.check_signature.proofs.ParamsLaws.{rows-count, rows-few}
-use Rattle.project_outcome.proofs.Passing.{passed, refused, stopped, passed-then}
-use Rattle.check_signature.specs.Whole.{check-return}
-
-module _ (f : ℕ) (a e : Option ResolvedType) (r : Outcome) where
-  pub other-return : same-return (normalize-return a) e ≡ false → r .ok ≡ false → refusal-of (r .refusal) ≡ with-detail 6 f (4 ∷ (return-words e ++ return-words (normalize-return a))) → Passes (check-return f a e) r
-  unfolding check-return
-  other-return d o q = refused _ _ r d o q
-
-  pub alike-return : same-return (normalize-return a) e ≡ true → r .ok ≡ true → Passes (check-return f a e) r
-  unfolding check-return
-  alike-return t o = passed _ _ r t o
+use Rattle.project_outcome.proofs.Passing.{refused, stopped, passed-then}
+use Rattle.check_types.specs.Returns.{check-return}
 
 -- a function and its signature, whose name is known
 module _ (f : ImplFnDef) (sig : PortableSignature) (name : ℕ) (is : sig .name ≡ name) where

@@ -1,4 +1,1 @@
-pub mod Details
-pub mod Params
-pub mod Whole
 pub mod Contracts

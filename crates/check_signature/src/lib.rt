@@ -1,43 +1,28 @@
 // An implementation's function against the signature that its trait asks for.
-mod mismatch;
 mod params;
 mod parts;
 
 use answers::answer::Outcome;
 use image_layout::Layout;
+use rules::bounds::LOCAL_ROWS;
 use rules::ids::NameId;
 use type_words::MaybeType;
 ghost use mathlib.Core.Path.{_≡_};
-ghost use mathlib.Core.Option.{Option};
 ghost use Prim.Native.Nat.{ℕ, _≤_};
-ghost use Rattle.rules.specs.Syntax.{ResolvedType, ImplFnDef};
-ghost use Rattle.type_words.specs.Holds.{MaybeHolds};
+ghost use Rattle.rules.specs.Syntax.{ImplFnDef};
 ghost use Rattle.image_layout.specs.Rows.{Inside};
 ghost use Rattle.image_layout.specs.Open.{pool-words};
 ghost use Rattle.pool_definitions.specs.DefinitionAt.{Function-stands};
-ghost use Rattle.project_outcome.specs.Outcomes.{Passes};
-ghost use Rattle.check_signature.specs.Whole.{check-return};
 ghost use Rattle.check_signature.specs.Contracts.{ChecksSignature};
 
 // A count of the table's rows as a word.
 fn as_word(count: usize) -> u32
     ensures { λ r. ⌜ (count ≤ 64 → r ≡ count) ⌝ }
 {
-    if 64 < count {
+    if LOCAL_ROWS < count {
         return 0;
     }
     count as u32
-}
-
-// The returns, of which the actual one may be Void.
-fn check_return(function: NameId, expected: MaybeType, actual: MaybeType) -> Outcome
-    ensures { λ r. ⌜ ((rows : ℕ) (a e : Option ResolvedType) → MaybeHolds rows actual a → MaybeHolds rows expected e → Passes (check-return (function .0) a e) r) ⌝ }
-{
-    let found = type_tests::tests::normalize_return(actual);
-    if !type_tests::tests::same_return(found, expected) {
-        return answers::answer::refused(crate::mismatch::wrong_return(function, expected, found));
-    }
-    answers::answer::accepted(0, 0)
 }
 
 // The function at `at` against the signature of this name, whose parameters are the rows of the table: counts, parameters, returns.
@@ -60,7 +45,7 @@ pub fn check_signature(
     let found = image_words::section_word(image, pool, start);
     let wanted = as_word(count);
     if found != wanted {
-        return answers::answer::refused(crate::mismatch::wrong_word(name, 1, wanted, found));
+        return answers::answer::refused(check_types::mismatch::wrong_word(name, 1, wanted, found));
     }
     let place = image_words::after(pool, start);
     let r = crate::params::check_params(image, l, place, name, names, words, lens, count);
@@ -68,7 +53,7 @@ pub fn check_signature(
         return r;
     }
     let end = crate::parts::return_start(image, l, at);
-    check_return(name, returns, crate::parts::hold_return(image, l, end))
+    check_types::check_return(name, returns, crate::parts::hold_return(image, l, end))
 }
 
 // Where the body of the function at `at` stands.

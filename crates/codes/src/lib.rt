@@ -3,6 +3,9 @@ use rules::kinds::DefinitionKind;
 use rules::kinds::ExprKind;
 use rules::kinds::StatementKind;
 use rules::kinds::TypeKind;
+use rules::tags::ExprTag;
+use rules::tags::StatementTag;
+use rules::tags::TypeTag;
 ghost use mathlib.Core.Path.{_≡_};
 ghost use Rattle.rules.specs.Kinds.{type-kind, expr-kind, statement-kind, definition-kind};
 
@@ -11,14 +14,14 @@ pub fn type_kind(code: u32) -> TypeKind
 {
     match code {
         0..=13 | 32..=37 => TypeKind::Plain,
-        16 => TypeKind::Sub,
-        48 => TypeKind::Named,
-        49 => TypeKind::Qualified,
-        50 => TypeKind::Generic,
-        66 => TypeKind::Fixed,
-        68 | 69 => TypeKind::Two,
+        TypeTag::SUB_BYTE => TypeKind::Sub,
+        TypeTag::NAMED => TypeKind::Named,
+        TypeTag::QUALIFIED => TypeKind::Qualified,
+        TypeTag::GENERIC => TypeKind::Generic,
+        TypeTag::FIXED_ARRAY => TypeKind::Fixed,
+        TypeTag::MAP | TypeTag::RESULT => TypeKind::Two,
         64 | 65 | 67 | 70..=75 => TypeKind::One,
-        80 => TypeKind::Bits,
+        TypeTag::BITS => TypeKind::Bits,
         _ => TypeKind::Unknown,
     }
 }
@@ -26,25 +29,25 @@ pub fn type_kind(code: u32) -> TypeKind
 pub fn expr_kind(code: u32) -> ExprKind
     ensures { λ r. ⌜ r ≡ expr-kind code ⌝ }
 {
-    if code < 3 {
+    if code < ExprTag::FLAG {
         ExprKind::Literal
-    } else if code == 3 {
+    } else if code == ExprTag::FLAG {
         ExprKind::Flag
-    } else if code == 4 {
+    } else if code == ExprTag::TEXT {
         ExprKind::Text
-    } else if code == 5 {
+    } else if code == ExprTag::LOCAL {
         ExprKind::Local
-    } else if code == 6 {
+    } else if code == ExprTag::SELF_REF {
         ExprKind::SelfRef
-    } else if code == 7 {
+    } else if code == ExprTag::FIELD_ACCESS {
         ExprKind::FieldAccess
-    } else if code == 8 {
+    } else if code == ExprTag::CALL {
         ExprKind::Call
-    } else if code == 9 {
+    } else if code == ExprTag::TRAIT_METHOD_CALL {
         ExprKind::TraitMethodCall
-    } else if code == 10 {
+    } else if code == ExprTag::BINARY {
         ExprKind::Binary
-    } else if code == 11 {
+    } else if code == ExprTag::UNARY {
         ExprKind::Unary
     } else {
         ExprKind::Unknown
@@ -54,13 +57,13 @@ pub fn expr_kind(code: u32) -> ExprKind
 pub fn statement_kind(code: u32) -> StatementKind
     ensures { λ r. ⌜ r ≡ statement-kind code ⌝ }
 {
-    if code == 0 {
+    if code == StatementTag::EXPR {
         StatementKind::Expr
-    } else if code == 1 {
+    } else if code == StatementTag::LET {
         StatementKind::Let
-    } else if code == 2 {
+    } else if code == StatementTag::RETURN {
         StatementKind::Return
-    } else if code == 3 {
+    } else if code == StatementTag::ASSIGN {
         StatementKind::Assign
     } else {
         StatementKind::Unknown

@@ -12,7 +12,7 @@ use Rattle.rules.specs.Output.{each, listed, signatures-words}
 use Rattle.image_words.specs.Gives.{Row}
 use Rattle.image_layout.specs.declared.Layout.{Layout}
 use Rattle.image_layout.specs.Open.{pool-words}
-use Rattle.pool_definitions.specs.DefinitionAt.{Trait-function-stands}
+use Rattle.pool_traits.specs.TraitAt.{Trait-function-stands}
 use Rattle.answers.specs.declared.answer.Outcome.{Outcome}
 use Rattle.answers.specs.Refusals.{refusal-of}
 use Rattle.answers.specs.Writes.{Writes}

@@ -13,7 +13,7 @@ use Rattle.rules.specs.Signatures.{PortableSignature, expected-list, expected-f
 use Rattle.image_words.specs.Gives.{Below-at, Row, Counted}
 use Rattle.image_layout.specs.declared.Layout.{Layout}
 use Rattle.image_layout.specs.Open.{pool-words}
-use Rattle.pool_definitions.specs.DefinitionAt.{Trait-function-stands}
+use Rattle.pool_traits.specs.TraitAt.{Trait-function-stands}
 use Rattle.subst_params.specs.Views.{Views}
 use Rattle.impl_rows.specs.Given.{Given}
 use Rattle.expected_functions.specs.Asked.{Functions-here, Asked}

@@ -9,7 +9,7 @@ use Rattle.image_words.specs.Gives.{Counted}
 use Rattle.image_layout.specs.declared.Layout.{Layout}
 use Rattle.image_layout.specs.Open.{Open, pool-words}
 use Rattle.pool_types.specs.TypeAt.{Type-stands}
-use Rattle.pool_definitions.specs.DefinitionAt.{Trait-function-stands, Trait-stands}
+use Rattle.pool_traits.specs.TraitAt.{Trait-function-stands, Trait-stands}
 use Rattle.expected_signature.specs.Here.{Here}
 
 -- visits, and signatures as words

@@ -3,6 +3,7 @@ use answers::answer::Outcome;
 use answers::refusal::Refusal;
 use image_layout::Layout;
 use rules::ids::NameId;
+use subst_params::ROW;
 ghost use Rattle.rules.specs.Signatures.{expected-functions};
 ghost use Rattle.image_layout.specs.Rows.{Cut};
 ghost use Rattle.answers.specs.Answers.{Comes};
@@ -60,5 +61,5 @@ pub fn expected_functions(
     }
     let n = wanted as usize;
     let table = impl_rows::view::view(image, l, start + 1 + 1, types + 1, n);
-    expected_list(image, l, start + 1 + 1 + n, &table[..66 * n], out)
+    expected_list(image, l, start + 1 + 1 + n, &table[..ROW * n], out)
 }

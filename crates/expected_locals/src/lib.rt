@@ -1,5 +1,6 @@
 // The signature that a trait function asks for, held: its parameters in the table of locals, its return beside; and its words written from there.
 use image_layout::Layout;
+use rules::bounds::LOCAL_ROWS;
 use rules::ids::NameId;
 use type_words::HeldType;
 use type_words::MaybeType;
@@ -75,7 +76,7 @@ fn as_return(ty: HeldType, next: usize) -> Returned
 {
     Returned {
         ok: true,
-        ty: type_tests::tests::normalize_return(MaybeType::some(ty)),
+        ty: type_tests::normalize_return(MaybeType::some(ty)),
         next,
     }
 }
@@ -145,7 +146,7 @@ fn put_params(
     requires { ⌜ limit ≤ length (now out) ⌝ }
     ensures { λ r. ⌜ PutsParams (now (names .entry)) (now (words .entry)) (now (lens .entry)) count (now (out .entry)) (now (out .exit)) limit to r ⌝ }
 {
-    if 64 < count {
+    if LOCAL_ROWS < count {
         return to;
     }
     let mut next = write_words::put(out, limit, to, count as u32);

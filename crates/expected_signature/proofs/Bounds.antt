@@ -9,7 +9,7 @@ use Rattle.rules.specs.Output.{listed, param-words}
 use Rattle.laws.specs.DefinitionRuns.{GoodReturn}
 use Rattle.image_layout.specs.declared.Layout.{Layout}
 use Rattle.image_layout.specs.Open.{pool-words}
-use Rattle.pool_definitions.specs.DefinitionAt.{Trait-return-at}
+use Rattle.pool_traits.specs.TraitAt.{Trait-return-at}
 use Rattle.expected_signature.specs.declared.part.Part.{Part}
 use Rattle.expected_signature.specs.Here.{Params-here, Return-here, Function-here}
 use Rattle.expected_signature.specs.Parts.{normal-words, normal-poisoned}

@@ -10,7 +10,7 @@ use Rattle.rules.specs.Substitute.{Counted, too-large, done, after, substitute-
 use Rattle.rules.specs.Signatures.{resolve-return}
 use Rattle.pool_types.specs.TypeAt.{Type-stands}
 use Rattle.pool_type_exprs.specs.TypeExprAt.{Type-expr-stands}
-use Rattle.pool_definitions.specs.DefinitionAt.{Trait-return-at}
+use Rattle.pool_traits.specs.TraitAt.{Trait-return-at}
 
 -- a type as a return
 abbrev returned : Counted ResolvedType → Counted (Option ResolvedType)

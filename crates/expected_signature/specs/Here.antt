@@ -7,7 +7,7 @@ use Rattle.image_layout.specs.declared.Layout.{Layout}
 use Rattle.image_layout.specs.Open.{Open, pool-words}
 use Rattle.pool_type_exprs.specs.TypeExprAt.{Type-expr-stands}
 use Rattle.pool_types.specs.ParamAt.{Param-at}
-use Rattle.pool_definitions.specs.DefinitionAt.{Trait-return-at, Trait-function-stands}
+use Rattle.pool_traits.specs.TraitAt.{Trait-return-at, Trait-function-stands}
 use Rattle.subst_params.specs.Views.{Views}
 
 -- over the image, its layout and the table of type parameters: a tree stands at `at`, by Q

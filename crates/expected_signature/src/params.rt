@@ -28,7 +28,7 @@ pub fn resolve_param(
     let b = answers::output::put_type(out, a, ty);
     Part {
         ok: true,
-        poisoned: type_tests::tests::contains_poison(ty),
+        poisoned: type_poison::contains_poison(ty),
         next: s.next,
         to: b,
         visits: s.visits,

@@ -16,7 +16,7 @@ fn put_return(out: &mut [u8], to: usize, t: MaybeType, next: usize, visits: u32)
     requires { ⌜ to ≤ 800000000 ⌝ }
     ensures { λ r. ⌜ ((names : ℕ) (o : Option ResolvedType) → MaybeHolds names t o → Part-done normal-words normal-poisoned visits o next to (now (out .entry)) (now (out .exit)) r) ⌝ }
 {
-    let n = type_tests::tests::normalize_return(t);
+    let n = type_tests::normalize_return(t);
     if !n.some {
         let end = answers::output::put(out, to, 0);
         return Part {
@@ -32,7 +32,7 @@ fn put_return(out: &mut [u8], to: usize, t: MaybeType, next: usize, visits: u32)
     let b = answers::output::put_type(out, a, ty);
     Part {
         ok: true,
-        poisoned: type_tests::tests::contains_poison(ty),
+        poisoned: type_poison::contains_poison(ty),
         next,
         to: b,
         visits,

@@ -9,6 +9,9 @@ ghost use Rattle.export_block.specs.Block.{words-of};
 // What a call answers, and touches nothing, where the block has fewer than five words. No number of the rules.
 pub const SHORT_BLOCK: u32 = 4294967295;
 
+// An answer's words.
+pub const ANSWER_WORDS: usize = 5;
+
 // Puts the five words at the block's start; the rest stays. Gives the number.
 pub fn put_answer(block: &mut [u32], a: Answer) -> u32
     requires { ⌜ 5 ≤ length (now block) ⌝ }

@@ -1,5 +1,6 @@
 // The C forms, for Rust or C to link.
 use call_answer::Call;
+use export_block::ANSWER_WORDS;
 use export_block::SHORT_BLOCK;
 use export_block::put_answer;
 use rules::ids::TypeId;
@@ -13,7 +14,7 @@ ghost use Rattle.exports.specs.Contracts.{ExportsCall, ExportsExpected, 
 pub extern "C" fn fruscalitu_readable(image: &[u8]) -> bool
     ensures { λ r. ⌜ r ≡ is-some (readable (now (image .entry))) ⌝ }
 {
-    image::read_image(image).ok
+    image::is_readable(image)
 }
 
 // Either call, with the answer's five words in a lent block.
@@ -27,10 +28,10 @@ fn export(
 ) -> u32
     ensures { λ r. ⌜ ExportsCall call (now (image .entry)) number (now (output .entry)) (now (output .exit)) (now (detail .entry)) (now (detail .exit)) (now (answer .entry)) (now (answer .exit)) r ⌝ }
 {
-    if answer.len() < 5 {
+    if answer.len() < ANSWER_WORDS {
         return SHORT_BLOCK;
     }
-    let a = portable::answer(call, image, TypeId(number), output, detail);
+    let a = call_answer::answer(call, image, TypeId(number), output, detail);
     put_answer(answer, a)
 }
 

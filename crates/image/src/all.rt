@@ -16,7 +16,7 @@ pub fn check_rows(image: &[u8], l: Layout) -> bool
     if !named {
         return false;
     }
-    let differ = image_texts::differ::texts_differ(image, l.texts, l.names.rows as usize);
+    let differ = image_texts_differ::texts_differ(image, l.texts, l.names.rows as usize);
     if !differ {
         return false;
     }

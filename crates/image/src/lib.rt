@@ -2,6 +2,9 @@
 mod all;
 
 use image_layout::Opened;
+ghost use mathlib.Core.Path.{_≡_};
+ghost use Rattle.rules.specs.Options.{is-some};
+ghost use Rattle.rules.specs.Image.{readable};
 ghost use Rattle.image.specs.Verdict.{Verdict};
 
 // Whether the image is readable, and where its rows stand: one walk of the image.
@@ -17,4 +20,11 @@ pub fn read_image(image: &[u8]) -> Opened
         ok: all::check_rows(image, l),
         layout: l,
     }
+}
+
+// That alone.
+pub fn is_readable(image: &[u8]) -> bool
+    ensures { λ r. ⌜ r ≡ is-some (readable (now (image .entry))) ⌝ }
+{
+    read_image(image).ok
 }

@@ -6,6 +6,9 @@ use rules::kinds::DefinitionKind;
 ghost use mathlib.Core.Path.{_≡_};
 ghost use Rattle.image_layout.specs.Rows.{Inside, Fits, row-word, IsNameRow, IsStringRow, IsDefinitionRow};
 
+// The place in the pool of what is not there.
+pub const NOWHERE: u32 = 4294967295;
+
 // A section of rows, each of so many words: how wide a row is, this tells.
 pub struct Table {
     pub words: Section,

@@ -27,7 +27,7 @@ pub fn check_definition_row(image: &[u8], l: Layout, i: TypeId) -> bool
             c.ok
         }
         DefinitionKind::Trait => {
-            let c = pool_definitions::traits::check_trait(image, pool, start, names);
+            let c = pool_traits::check_trait(image, pool, start, names);
             c.ok
         }
         DefinitionKind::Implementation => {

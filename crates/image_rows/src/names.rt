@@ -1,5 +1,7 @@
 // Name rows.
 use image_layout::Layout;
+use image_layout::NOWHERE;
+use rules::bounds::TEXT_BYTES;
 use rules::ids::NameId;
 use rules::ids::TypeId;
 ghost use Prim.Native.Nat.{_<_};
@@ -13,14 +15,14 @@ pub fn check_name_row(image: &[u8], l: Layout, i: NameId) -> bool
 {
     let row = image_layout::name_row(image, l, i);
     let size = row.size as usize;
-    if !((1 <= size) & (size <= 255) & (row.start as usize + size <= l.texts)) {
+    if !((1 <= size) & (size <= TEXT_BYTES) & (row.start as usize + size <= l.texts)) {
         return false;
     }
     let definition = row.definition;
     if !((definition.0 < l.definitions.rows) | (definition.0 == TypeId::NONE.0)) {
         return false;
     }
-    if row.alias == TypeId::NONE.0 {
+    if row.alias == NOWHERE {
         return true;
     }
     let pool = l.pool;

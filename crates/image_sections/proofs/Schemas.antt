@@ -18,8 +18,9 @@ use Rattle.image_words.proofs.Steps.{true-false}
 use Rattle.image_layout.specs.declared.Layout.{Layout}
 use Rattle.image_layout.specs.declared.Opened.{Opened}
 use Rattle.image_layout.specs.Readers.{rows-of}
-use Rattle.image_sections.specs.declared.Trailer.{Trailer}
-use Rattle.image_sections.specs.Trailers.{meant, IsTrailer, trailer-told, layout-told}
+use Rattle.image_trailer.specs.declared.Trailer.{Trailer}
+use Rattle.image_trailer.specs.Trailers.{meant, IsTrailer, trailer-told}
+use Rattle.image_sections.specs.Tables.{layout-told}
 use Rattle.image_sections.specs.Laid.{value, no-layout, layout-if, opened-told, Laid, Read}
 use Rattle.image_sections.proofs.Trailers.{bounds, parts, Tells, tells}
 

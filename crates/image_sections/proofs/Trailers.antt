@@ -11,7 +11,7 @@ use Rattle.rules.specs.Image as rules
 use Rattle.rules.specs.Image.{whole-rows, good-trailer}
 use Rattle.image_layout.specs.declared.Table.{Table}
 use Rattle.image_layout.specs.declared.Layout.{Layout}
-use Rattle.image_sections.specs.Trailers.{Whole, table-told, layout-told}
+use Rattle.image_sections.specs.Tables.{Whole, table-told, layout-told}
 
 both : (a b : Bool) → (a && b) ≡ true → (a ≡ true) × (b ≡ true)
 both true b e = (refl, e)

@@ -14,7 +14,8 @@ use Rattle.image_layout.specs.declared.Layout.{Layout}
 use Rattle.image_layout.specs.declared.Opened.{Opened}
 use Rattle.image_layout.specs.Rows.{Cut}
 use Rattle.image_layout.specs.Readers.{rows-of}
-use Rattle.image_sections.specs.Trailers.{trailer-told, layout-told}
+use Rattle.image_trailer.specs.Trailers.{trailer-told}
+use Rattle.image_sections.specs.Tables.{layout-told}
 
 -- what was read, without the place
 abbrev pub value : {A : Type 0} → Option (A × Rest) → Option A

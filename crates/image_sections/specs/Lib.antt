@@ -1,2 +1,2 @@
-pub mod Trailers
+pub mod Tables
 pub mod Laid

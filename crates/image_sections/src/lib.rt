@@ -1,72 +1,21 @@
-// An image's trailer, tested, and the layout that it tells.
+// The layout that an image's trailer tells.
 use image_layout::Layout;
 use image_layout::Opened;
 use image_layout::Table;
+use image_trailer::DEFINITION_WORDS;
+use image_trailer::NAME_WORDS;
+use image_trailer::STRING_WORDS;
+use image_trailer::Trailer;
 use image_words::Section;
+use rules::bounds::IMAGE_BYTES;
+use rules::bounds::TRAILER_BYTES;
 ghost use mathlib.Core.Path.{_≡_};
-ghost use mathlib.Core.Bool.{true, false};
+ghost use mathlib.Core.Bool.{true};
 ghost use Prim.Native.Nat.{_*_, _≤_};
-ghost use lib.ListN.{length};
-ghost use Rattle.rules.specs.Image.{whole-rows, good-trailer};
-ghost use Rattle.image_sections.specs.Trailers.{meant, IsTrailer, Whole, table-told, layout-told};
+ghost use Rattle.rules.specs.Image.{good-trailer};
+ghost use Rattle.image_trailer.specs.Trailers.{meant};
+ghost use Rattle.image_sections.specs.Tables.{Whole, table-told, layout-told};
 ghost use Rattle.image_sections.specs.Laid.{no-layout, Read};
-
-// Words of a row. What a definition row of format 1 has stands here; the layout hands it on.
-const NAME_WORDS: usize = 4;
-
-const STRING_WORDS: usize = 2;
-
-const DEFINITION_WORDS: usize = 2;
-
-// Where the sections start, the format, and the image's length.
-pub struct Trailer {
-    pub names: usize,
-    pub strings: usize,
-    pub pool: usize,
-    pub definitions: usize,
-    pub format: usize,
-    pub size: usize,
-}
-
-// The last six words.
-fn read_trailer(image: &[u8]) -> Trailer
-    requires { ⌜ 24 ≤ length (now image) ⌝ }
-    ensures { λ r. ⌜ IsTrailer (now (image .entry)) r ⌝ }
-{
-    let s = Section {
-        start: image.len() - 24,
-        len: 6,
-    };
-    Trailer {
-        names: image_words::section_word(image, s, 0) as usize,
-        strings: image_words::section_word(image, s, 1) as usize,
-        pool: image_words::section_word(image, s, 2) as usize,
-        definitions: image_words::section_word(image, s, 3) as usize,
-        format: image_words::section_word(image, s, 4) as usize,
-        size: image_words::section_word(image, s, 5) as usize,
-    }
-}
-
-// Whole rows of `width` words from start to stop, at most `most`.
-fn whole_rows(start: usize, stop: usize, width: usize, most: usize) -> bool
-    requires { ⌜ (1 ≤ width) × (width ≤ 4) ⌝ }
-    ensures { λ r. ⌜ r ≡ whole-rows start stop (4 * width) most ⌝ }
-{
-    let bytes = image_words::less(stop, start);
-    (start <= stop) & (bytes % (4 * width) == 0) & (bytes / (4 * width) <= most)
-}
-
-fn good_trailer(t: Trailer, size: usize) -> bool
-    requires { ⌜ 24 ≤ size ⌝ }
-    ensures { λ r. ⌜ r ≡ good-trailer size (meant t) ⌝ }
-{
-    (t.format == 1)
-        & (t.size == size)
-        & whole_rows(t.names, t.strings, NAME_WORDS, 1024)
-        & whole_rows(t.strings, t.pool, STRING_WORDS, 1024)
-        & whole_rows(t.pool, t.definitions, 1, 65536)
-        & whole_rows(t.definitions, size - 24, DEFINITION_WORDS, 256)
-}
 
 // The rows from start to stop.
 fn table(start: usize, stop: usize, width: usize) -> Table
@@ -92,7 +41,7 @@ fn layout_of(t: Trailer, size: usize) -> Layout
     let names = table(t.names, t.strings, NAME_WORDS);
     let strings = table(t.strings, t.pool, STRING_WORDS);
     let pool = table(t.pool, t.definitions, 1);
-    let definitions = table(t.definitions, size - 24, DEFINITION_WORDS);
+    let definitions = table(t.definitions, size - TRAILER_BYTES, DEFINITION_WORDS);
     let words = pool.words;
     Layout {
         texts: t.names,
@@ -129,11 +78,11 @@ pub fn read_layout(image: &[u8]) -> Opened
     ensures { λ r. ⌜ Read (now (image .entry)) r ⌝ }
 {
     let size = image.len();
-    if !((24 <= size) & (size <= 65536)) {
+    if !((TRAILER_BYTES <= size) & (size <= IMAGE_BYTES)) {
         return no_layout();
     }
-    let t = read_trailer(image);
-    if !good_trailer(t, size) {
+    let t = image_trailer::read_trailer(image);
+    if !image_trailer::good_trailer(t, size) {
         return no_layout();
     }
     Opened {

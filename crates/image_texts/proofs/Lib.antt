@@ -1,5 +1,4 @@
 pub mod All
 pub mod SameLaws
-pub mod HashLaws
 pub mod Find
 pub mod Names

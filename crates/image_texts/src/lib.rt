@@ -1,6 +1,3 @@
-// The texts of name rows: where a text stands, whether two are the same, whether all differ, and a qualified name's row.
-pub mod differ;
-pub mod hash;
-pub mod qualified;
+// The texts of name rows: where a text stands, and whether two are the same.
 pub mod row;
 pub mod same;

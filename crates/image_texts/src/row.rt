@@ -22,11 +22,14 @@ pub fn part(s: &[u8], start: u32, len: u32) -> &[u8]
     &s[..0]
 }
 
+// A name row has four words (`image_trailer::NAME_WORDS`).
+const NAME_ROW_BYTES: usize = 16;
+
 // The text of a name.
 pub fn text_of(image: &[u8], names_start: usize, name: NameId) -> &[u8]
     requires { ⌜ «names_start» ≤ 65536 ⌝ }
     ensures { λ r. ⌜ now r ≡ row-text (now (image .entry)) «names_start» (name .0) ⌝ }
 {
-    let at = names_start + 16 * (name.0 as usize);
+    let at = names_start + NAME_ROW_BYTES * (name.0 as usize);
     part(image, word_at(image, at), word_at(image, at + 4))
 }

@@ -1,6 +1,4 @@
 pub mod Walk
 pub mod PlaceTable
 pub mod FindByName
-pub mod TargetRows
-pub mod Members
-pub mod NameTests
+pub mod NameTables

@@ -5,7 +5,7 @@ use mathlib.Core.List.{List, [], _∷_, _++_, append-nil}
 use native.Mathlib.Numerals.{add-one}
 use lib.ListN.{length, getD, take, drop, set, drop-of-length-le}
 use lib.Seq.{append-snoc, drop-cons}
-use Rattle.pool_definitions.proofs.Different.{take-more}
+use Rattle.pool_traits.proofs.Different.{take-more}
 use Rattle.impl_functions.specs.Functions.{Each-at}
 use Rattle.impl_functions.proofs.Walk as walk
 

@@ -1,21 +1,12 @@
 -- Where functions stand in the pool.
 use Prim.Native.Nat.{ℕ}
-use mathlib.Core.Bool.{Bool, true, false}
 use mathlib.Core.List.{List, [], _∷_}
-use Rattle.rules.specs.Syntax.{MessageDef, TraitFnDef, ImplFnDef}
-use Rattle.rules.specs.declared.kinds.DefinitionKind.{DefinitionKind}
+use Rattle.rules.specs.Syntax.{TraitFnDef, ImplFnDef}
 use Rattle.image_words.specs.Gives.{Counted}
 use Rattle.image_layout.specs.declared.Layout.{Layout}
 use Rattle.image_layout.specs.Open.{pool-words}
-use Rattle.pool_definitions.specs.DefinitionAt.{Message-stands, Trait-function-stands, Function-stands}
-
-abbrev pub is-message-kind : DefinitionKind → Bool
-is-message-kind DefinitionKind.Other = false
-is-message-kind DefinitionKind.Message = true
-is-message-kind DefinitionKind.GenericAlias = false
-is-message-kind DefinitionKind.Trait = false
-is-message-kind DefinitionKind.Implementation = false
-is-message-kind DefinitionKind.Unknown = false
+use Rattle.pool_traits.specs.TraitAt.{Trait-function-stands}
+use Rattle.pool_definitions.specs.DefinitionAt.{Function-stands}
 
 -- each of some things at a place of its own, by Q, one by one
 abbrev pub Each-at : {A : Type 0} → (A → ℕ → ℕ → Type 0) → List A → List ℕ → Type 0
@@ -25,9 +16,6 @@ Each-at Q (x ∷ xs) [] = ⊥
 Each-at Q (x ∷ xs) (p ∷ ps) = (m : ℕ) × Q x p m × Each-at Q xs ps
 
 module _ (image : List ℕ) (l : Layout) where
-  abbrev pub Message-here : MessageDef → ℕ → ℕ → Type 0
-  Message-here = Message-stands (l .names .rows) (pool-words image l)
-
   -- an implementation's function, and all of them
   abbrev pub Function-here : ImplFnDef → ℕ → ℕ → Type 0
   Function-here = Function-stands (l .names .rows) (l .strings .rows) (pool-words image l)

@@ -1,8 +1,5 @@
-// An implementation's functions by name, and its target message.
-pub mod message;
+// An implementation's functions: their places, their names, and the one of a name.
 pub mod names;
 pub mod places;
-pub mod repeats;
 pub mod search;
-pub mod strangers;
 pub mod table;

@@ -17,7 +17,8 @@ use Rattle.image_layout.specs.declared.Layout.{Layout}
 use Rattle.image_layout.specs.declared.DefinitionRow.{DefinitionRow}
 use Rattle.image_layout.specs.Rows.{IsDefinitionRow}
 use Rattle.image_layout.specs.Open.{Open, DefinitionStands, pool-words}
-use Rattle.pool_definitions.proofs.DefinitionAt.{trait-gives, implementation-gives}
+use Rattle.pool_traits.proofs.TraitAt.{trait-gives}
+use Rattle.pool_definitions.proofs.DefinitionAt.{implementation-gives}
 use Rattle.subst_names.proofs.NamesLaws.{there, past}
 use Rattle.impl_rows.specs.declared.find.Found.{Found}
 use Rattle.impl_rows.specs.Found.{is-impl-kind, is-trait-kind, Agrees, Finds, Impl-here, Trait-here}

@@ -8,7 +8,8 @@ use Rattle.rules.specs.Syntax.{TraitDef, ImplDef}
 use Rattle.rules.specs.declared.kinds.DefinitionKind.{DefinitionKind}
 use Rattle.image_layout.specs.declared.Layout.{Layout}
 use Rattle.image_layout.specs.Open.{pool-words}
-use Rattle.pool_definitions.specs.DefinitionAt.{Trait-stands, Impl-stands}
+use Rattle.pool_traits.specs.TraitAt.{Trait-stands}
+use Rattle.pool_definitions.specs.DefinitionAt.{Impl-stands}
 use Rattle.impl_rows.specs.declared.find.Found.{Found}
 
 abbrev pub is-impl-kind : DefinitionKind → Bool

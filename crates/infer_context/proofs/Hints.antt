@@ -14,7 +14,7 @@ use Rattle.rules.specs.Infer.{FunctionContext, find-last, Place, of-local, of-s
 use Rattle.rules.proofs.Clash.{clash}
 use Rattle.type_words.specs.declared.MaybeType.{MaybeType}
 use Rattle.type_words.specs.Holds.{MaybeHolds}
-use Rattle.pool_bodies.proofs.ExprAt.{value-shape}
+use Rattle.pool_expressions.proofs.ExprAt.{value-shape}
 use Rattle.infer_context.specs.declared.PlaceKind.{PlaceKind}
 use Rattle.infer_context.specs.PlaceKinds.{place-kind}
 use Rattle.infer_context.specs.Stood.{Stood}

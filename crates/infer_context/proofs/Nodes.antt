@@ -10,7 +10,7 @@ use Rattle.rules.specs.declared.kinds.ExprKind.{ExprKind}
 use Rattle.laws.specs.Runs.{expr-words, nesting}
 use Rattle.rules.proofs.Codes.{literal-kind}
 use Rattle.image_words.specs.Stands.{Stands}
-use Rattle.pool_bodies.proofs.ExprAt.{value-shape}
+use Rattle.pool_expressions.proofs.ExprAt.{value-shape}
 use Rattle.image_words.proofs.Heads.{head, tail, inside, first, second}
 use Rattle.infer_context.specs.Stood.{Stood}
 

@@ -19,8 +19,8 @@ use Rattle.type_words.specs.Holds.{Holds, MaybeHolds}
 use Rattle.type_words.proofs.Maybe.{some-of, none-of}
 use Rattle.type_words.proofs.Trees.{plain-holds}
 use Rattle.codes.proofs.Codes.{primitive-in}
-use Rattle.type_tests.specs.Literals.{literal-type}
-use Rattle.type_tests.proofs.Inferred.{literal-typed, literal-refused}
+use Rattle.literal_fits.specs.Literals.{literal-type}
+use Rattle.literal_fits.proofs.Inferred.{literal-typed, literal-refused}
 use Rattle.image_words.proofs.Heads.{head, tail, inside}
 use Rattle.infer_context.specs.Stood.{Stood}
 use Rattle.infer_result.specs.declared.inferred.Inferred.{Inferred}

@@ -9,6 +9,7 @@ use infer_result::inferred::type_mismatch;
 use rules::ids::NameId;
 use rules::ids::PrimitiveType;
 use rules::kinds::ExprKind;
+use rules::tags::TypeTag;
 use type_words::HeldType;
 use type_words::MaybeType;
 ghost use mathlib.Core.Path.{_≡_};
@@ -16,7 +17,7 @@ ghost use Prim.Native.Nat.{ℕ, _+_, _*_, _<_};
 ghost use Rattle.rules.specs.Syntax.{Expr};
 ghost use Rattle.rules.specs.Fits.{literal-own};
 ghost use Rattle.type_words.specs.Holds.{Holds, EachMaybe, MaybeHolds};
-ghost use Rattle.type_tests.specs.Literals.{literal-type};
+ghost use Rattle.literal_fits.specs.Literals.{literal-type};
 ghost use Rattle.image_layout.specs.Rows.{Inside};
 ghost use Rattle.image_layout.specs.Open.{pool-words};
 ghost use Rattle.infer_context.specs.Stood.{Stood};
@@ -39,12 +40,12 @@ fn literal_type(code: u32, bits: u64, expected: MaybeType) -> MaybeType
     ensures { λ r. ⌜ (code < 3 → EachMaybe expected (λ names o. MaybeHolds names r (literal-type code bits o))) ⌝ }
 {
     if code == 0 {
-        return type_tests::literals::literal_int_type(bits, expected);
+        return literal_fits::literal_int_type(bits, expected);
     }
     if code == 1 {
-        return type_tests::literals::literal_uint_type(bits, expected);
+        return literal_fits::literal_uint_type(bits, expected);
     }
-    type_tests::literals::literal_float_type(expected)
+    literal_fits::literal_float_type(expected)
 }
 
 // A literal's own type.
@@ -127,7 +128,7 @@ pub fn infer_leaf(
     match k {
         ExprKind::Literal => infer_literal(image, l, at, expected, context),
         ExprKind::Flag => ended(expected, context, HeldType::plain(PrimitiveType::BOOL)),
-        ExprKind::Text => ended(expected, context, HeldType::plain(HeldType::STRING)),
+        ExprKind::Text => ended(expected, context, HeldType::plain(TypeTag::STRING)),
         ExprKind::Local | ExprKind::SelfRef => infer_place(
             image,
             l,

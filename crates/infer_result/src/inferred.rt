@@ -1,6 +1,6 @@
 // The answer, and the test at an expression's end.
 use rules::ids::NameId;
-use type_tests::tests::same_type;
+use type_tests::same_type;
 use type_words::HeldType;
 use type_words::MaybeType;
 ghost use mathlib.Core.Path.{_≡_};
@@ -8,7 +8,7 @@ ghost use mathlib.Core.List.{_∷_};
 ghost use Prim.Native.Nat.{ℕ, _<_};
 ghost use Rattle.rules.specs.Syntax.{ResolvedType, run};
 ghost use Rattle.rules.specs.Refusal.{err, with-name, with-detail};
-ghost use Rattle.rules.specs.Infer.{FunctionContext, type-mismatch, ended};
+ghost use Rattle.rules.specs.Infer.{FunctionContext, type-mismatch};
 ghost use Rattle.type_words.specs.Holds.{Holds};
 ghost use Rattle.infer_result.specs.Says.{Says};
 ghost use Rattle.infer_result.specs.Contracts.{Ends};

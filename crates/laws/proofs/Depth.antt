@@ -9,7 +9,7 @@ use lib.ListN.{length}
 use lib.Dec.{leb}
 use borrow.Author.Tests.{le-leb, lt-leb, leb-true, leb-false}
 use Rattle.rules.specs.Syntax.{ResolvedType, TypeExpr, run, Param, CompiledSchema}
-use Rattle.rules.specs.Substitute.{Counted, too-large, done, after, lookup-alias, substitute-depth, substitute-type}
+use Rattle.rules.specs.Substitute.{Counted, too-large, done, after, lookup-alias, substitute-type}
 use Rattle.rules.proofs.Clash.{clash}
 use Rattle.laws.proofs.Counts.{Counts, too-large-counts, after-counts, any-counts}
 use Rattle.laws.specs.Visits.{Rec, cut, short, plain-expand, plain-node, plain-depth}
@@ -158,10 +158,3 @@ module _ (schema : CompiledSchema) where
   pub counted-once : (ps : List (Param ResolvedType)) (e : TypeExpr) → substitute-type schema ps e ≡ cut (plain-depth schema 1024 ps e)
   unfolding substitute-type
   counted-once ps e = compared-once schema 1024 ps e
-
-  -- a depth over 1,024 changes nothing
-  pub deeper : (f : ℕ) (ps : List (Param ResolvedType)) (e : TypeExpr) → 1024 ≤ f → substitute-depth schema f ps e ≡ substitute-depth schema 1024 ps e
-  deeper f ps e l =
-      compared-once schema f ps e
-      ∙ same-cut (plain-depth schema f ps e) (plain-depth schema 1024 ps e) (λ v t q m. enough 1024 f ps e v t q (omega arith)) (λ v t q m. enough f 1024 ps e v t q m)
-      ∙ sym (compared-once schema 1024 ps e)

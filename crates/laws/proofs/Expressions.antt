@@ -1,5 +1,5 @@
 -- Expressions in the pool: the words of an expression read back to it and nothing else does.
-use Prim.Native.Nat.{ℕ, zero, suc, _≤_, max}
+use Prim.Native.Nat.{ℕ, zero, suc, _≤_}
 use mathlib.Core.Path.{_≡_, refl, sym, ap, ap₂, subst}
 use mathlib.Core.List.{List, [], _∷_, _++_}
 use native.Mathlib.Omega.{arith}
@@ -124,7 +124,3 @@ module _ (names strings : ℕ) where
   pub expression-exact : Exact (expression names strings) expr-words (Nested names strings 32)
   unfolding expression
   expression-exact = tree-exact 32
-
-  -- two good expressions whose words begin one list are one expression
-  pub prefix-free : (d e : Expr) (a b : List ℕ) → GoodValue names strings d → GoodValue names strings e → expr-words d ++ a ≡ expr-words e ++ b → (d ≡ e) × (a ≡ b)
-  prefix-free d e a b g h q = exact.prefix-free (tree-exact (max (nesting d) (nesting e))) d e a b (record { good = g; deep = omega arith }) (record { good = h; deep = omega arith }) q

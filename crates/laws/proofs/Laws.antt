@@ -1,6 +1,6 @@
 -- The laws hold.
 use Prim.Native.Nat.{ℕ}
-use mathlib.Core.Path.{_≡_, refl, ap, subst}
+use mathlib.Core.Path.{_≡_, subst}
 use mathlib.Core.Bool.{true}
 use mathlib.Core.Option.{Option}
 use Rattle.rules.specs.Syntax.{ResolvedType}

@@ -58,10 +58,6 @@ pub same-type-self : (t : ResolvedType) → same-type t t ≡ true
 unfolding same-type
 same-type-self t = same-self (run t)
 
-pub same-type-false : (names : ℕ) (t u : ResolvedType) → Good names t → Good names u → (t ≡ u → ⊥) → same-type t u ≡ false
-unfolding same-type
-same-type-false names t u g h n = same-false (run t) (run u) (λ e. n (run-injective names t u g h e))
-
 -- a return's words tell it
 pub return-injective : (names : ℕ) (t u : Option ResolvedType) → AllOption (Good names) t → AllOption (Good names) u → return-words t ≡ return-words u → t ≡ u
 unfolding return-words

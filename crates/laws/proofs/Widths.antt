@@ -56,10 +56,3 @@ takes-unsigned-int w n = go (ltb n (2 ^ 63))
     go : (b : Bool) → takes (Unsigned w) (cond b (pos n) (negsuc (2 ^ 64 - 1 - n))) ≡ cond b (ltb n (2 ^ w)) false
     go true = takes-unsigned w n
     go false = takes-unsigned-neg w (2 ^ 64 - 1 - n)
-
-pub takes-signed-int : (w n : ℕ) → takes (Signed w) (int-of n) ≡ ltb (cond (ltb n (2 ^ 63)) n (2 ^ 64 - 1 - n)) (2 ^ (w - 1))
-takes-signed-int w n = takes-signed w (int-of n) ∙ ap (λ (m : ℕ). ltb m (2 ^ (w - 1))) (mag-int-of n)
-
--- an unsigned literal
-pub takes-signed-uint : (w n : ℕ) → takes (Signed w) (pos n) ≡ ltb n (2 ^ (w - 1))
-takes-signed-uint w n = takes-signed w (pos n)

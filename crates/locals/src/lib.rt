@@ -1,8 +1,10 @@
 // The locals in view: a lent table of 64 rows. A local's type has 64 words; its name and the count of its words stand beside.
+use rules::bounds::LOCAL_ROWS;
+use rules::bounds::TYPE_WORDS;
 use rules::ids::NameId;
 use type_words::HeldType;
 use type_words::MaybeType;
-ghost use Prim.Native.Nat.{ℕ, _+_, _<_, _≤_};
+ghost use Prim.Native.Nat.{ℕ, _<_, _≤_};
 ghost use mathlib.Core.List.{List};
 ghost use lib.ListN.{length};
 ghost use Rattle.rules.specs.Syntax.{ResolvedType, Param};
@@ -11,6 +13,9 @@ ghost use Rattle.type_words.specs.Holds.{Holds, MaybeHolds};
 ghost use Rattle.locals.specs.Rows.{Row, Rows};
 ghost use Rattle.locals.specs.Adds.{Filled};
 ghost use Rattle.locals.specs.Contracts.{FindsLocal, AddsLocal};
+
+// The words of all rows.
+pub const LOCAL_WORDS: usize = LOCAL_ROWS * TYPE_WORDS;
 
 // The row of the last local of this name, or the count where there is none.
 pub fn find_local(names: &[u32], count: usize, x: NameId) -> usize
@@ -34,23 +39,23 @@ pub fn find_local(names: &[u32], count: usize, x: NameId) -> usize
 pub fn local_type(words: &[u32], lens: &[u32], i: usize) -> HeldType
     ensures { λ r. ⌜ ((rows : ℕ) (names : List ℕ) (p : Param ResolvedType) → Row rows names (now (words .entry)) (now (lens .entry)) i p → Holds rows r (p .ty)) ⌝ }
 {
-    if 64 <= i {
+    if LOCAL_ROWS <= i {
         return HeldType::empty();
     }
     if lens.len() <= i {
         return HeldType::empty();
     }
     let n = lens[i] as usize;
-    if 64 < n {
+    if TYPE_WORDS < n {
         return HeldType::empty();
     }
-    if words.len() < 64 * i + 64 {
+    if words.len() < TYPE_WORDS * i + TYPE_WORDS {
         return HeldType::empty();
     }
-    let mut run = [0u32; 64];
+    let mut run = [0u32; TYPE_WORDS];
     let mut k = 0;
     while k < n {
-        run[k] = words[64 * i + k];
+        run[k] = words[TYPE_WORDS * i + k];
         k += 1;
     }
     HeldType { words: run, len: n }
@@ -74,8 +79,8 @@ fn fill_row(words: &mut [u32], i: usize, ty: HeldType)
 {
     let from = ty.words;
     let mut k = 0;
-    while k < 64 {
-        words[64 * i + k] = from[k];
+    while k < TYPE_WORDS {
+        words[TYPE_WORDS * i + k] = from[k];
         k += 1;
     }
 }

@@ -1,4 +1,3 @@
-pub mod ExprAt
 pub mod StatementAt
 pub mod StatementLaws
 pub mod Blocks

@@ -16,8 +16,8 @@ use Rattle.image_words.specs.Gives.{Word}
 use Rattle.image_words.proofs.Stands.{held-gives}
 use Rattle.pool_types.specs.TypeAt.{Type-stands}
 use Rattle.pool_types.proofs.TypeAt.{type-gives}
-use Rattle.pool_bodies.specs.ExprAt.{Expr-stands}
-use Rattle.pool_bodies.proofs.ExprAt.{expression-gives}
+use Rattle.pool_expressions.specs.ExprAt.{Expr-stands}
+use Rattle.pool_expressions.proofs.ExprAt.{expression-gives}
 use Rattle.pool_bodies.specs.StatementAt.{Statement-node, let-of, Statement-at, Statement-stands, Body-at, Body-stands}
 
 -- over the numbers of name rows and string rows and the words

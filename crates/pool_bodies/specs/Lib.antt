@@ -1,2 +1,1 @@
-pub mod ExprAt
 pub mod StatementAt

@@ -11,7 +11,7 @@ use Rattle.laws.specs.Runs.{stored-statement-words, body-words, GoodStatement, 
 use Rattle.image_words.specs.Gives.{Word, Counted, Maybe-at}
 use Rattle.image_words.specs.Stands.{Held}
 use Rattle.pool_types.specs.TypeAt.{Type-stands}
-use Rattle.pool_bodies.specs.ExprAt.{Name-at, Expr-stands}
+use Rattle.pool_expressions.specs.ExprAt.{Name-at, Expr-stands}
 
 -- the word at `at` is a statement's code of kind k
 pub record Statement-node (ws : List ℕ) (at : ℕ) (k : StatementKind) : Type 0 where

@@ -1,6 +1,8 @@
 // Bodies of functions in the pool.
 use image_words::Checked;
 use image_words::Section;
+use rules::bounds::LETS;
+use rules::bounds::STATEMENTS;
 ghost use Rattle.rules.specs.ReadBodies.{block, body};
 ghost use Rattle.image_words.specs.Verdict.{section-words, Lies, Says};
 
@@ -9,7 +11,7 @@ pub fn check_block(image: &[u8], pool: Section, at: usize, names: u32, strings: 
     requires { ⌜ Lies (now image) pool ⌝ }
     ensures { λ r. ⌜ Says (block names strings) (section-words (now (image .entry)) pool) at r ⌝ }
 {
-    let n = image_words::check_count(image, pool, at, 256);
+    let n = image_words::check_count(image, pool, at, STATEMENTS);
     if !n.ok {
         return n;
     }
@@ -26,7 +28,7 @@ pub fn check_block(image: &[u8], pool: Section, at: usize, names: u32, strings: 
         next = a.next;
         i += 1;
     }
-    if 32 < lets {
+    if LETS < lets {
         return Checked { ok: false, next: 0 };
     }
     Checked { ok: true, next }

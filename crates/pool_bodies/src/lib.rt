@@ -1,4 +1,3 @@
-// Whether an expression, a statement or a body stands in the pool, as the rules read it.
+// Whether a statement or a body stands in the pool, as the rules read it.
 pub mod bodies;
-pub mod expressions;
 pub mod statements;

@@ -26,7 +26,7 @@ pub fn check_let(image: &[u8], pool: Section, at: usize, names: u32, strings: u3
         return t;
     }
     let m = t.next;
-    crate::expressions::check_expression(image, pool, m, names, strings)
+    pool_expressions::check_expression(image, pool, m, names, strings)
 }
 
 pub fn check_statement(image: &[u8], pool: Section, at: usize, names: u32, strings: u32) -> Checked
@@ -40,9 +40,9 @@ pub fn check_statement(image: &[u8], pool: Section, at: usize, names: u32, strin
     let n = a.next;
     let k = codes::statement_kind(image_words::section_word(image, pool, at));
     match k {
-        StatementKind::Expr => crate::expressions::check_expression(image, pool, n, names, strings),
+        StatementKind::Expr => pool_expressions::check_expression(image, pool, n, names, strings),
         StatementKind::Let => check_let(image, pool, n, names, strings),
-        StatementKind::Return => crate::expressions::check_maybe_expression(
+        StatementKind::Return => pool_expressions::check_maybe_expression(
             image,
             pool,
             n,
@@ -50,12 +50,12 @@ pub fn check_statement(image: &[u8], pool: Section, at: usize, names: u32, strin
             strings,
         ),
         StatementKind::Assign => {
-            let t = crate::expressions::check_expression(image, pool, n, names, strings);
+            let t = pool_expressions::check_expression(image, pool, n, names, strings);
             if !t.ok {
                 return t;
             }
             let m = t.next;
-            crate::expressions::check_expression(image, pool, m, names, strings)
+            pool_expressions::check_expression(image, pool, m, names, strings)
         }
         StatementKind::Unknown => Checked { ok: false, next: 0 },
     }

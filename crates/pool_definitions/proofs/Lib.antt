@@ -1,3 +1,1 @@
-pub mod Different
 pub mod DefinitionAt
-pub mod TraitLoop

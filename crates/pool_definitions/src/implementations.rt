@@ -3,6 +3,9 @@ use image_words::Checked;
 use image_words::Section;
 use pool_lists::Form;
 use pool_lists::Item;
+use rules::bounds::FUNCTIONS;
+use rules::bounds::PARAMS;
+use rules::bounds::TYPE_PARAMS;
 ghost use Rattle.rules.specs.Reader.{many};
 ghost use Rattle.rules.specs.ReadDefinitions.{impl-function, implementation};
 ghost use Rattle.image_words.specs.Verdict.{section-words, Lies, Says};
@@ -23,7 +26,7 @@ pub fn check_impl_function(
         return a;
     }
     let n = a.next;
-    let p = pool_lists::check_items(Item::Named(Form::Resolved), image, pool, n, names, 32);
+    let p = pool_lists::check_items(Item::Named(Form::Resolved), image, pool, n, names, PARAMS);
     if !p.ok {
         return p;
     }
@@ -47,7 +50,7 @@ pub fn check_impl_functions(
     requires { ⌜ Lies (now image) pool ⌝ }
     ensures { λ r. ⌜ Says (many 64 (impl-function names strings)) (section-words (now (image .entry)) pool) at r ⌝ }
 {
-    let n = image_words::check_count(image, pool, at, 64);
+    let n = image_words::check_count(image, pool, at, FUNCTIONS);
     if !n.ok {
         return n;
     }
@@ -91,7 +94,7 @@ pub fn check_implementation(
         return t;
     }
     let n = t.next;
-    let g = pool_lists::check_items(Item::Type, image, pool, n, names, 8);
+    let g = pool_lists::check_items(Item::Type, image, pool, n, names, TYPE_PARAMS);
     if !g.ok {
         return g;
     }

@@ -1,4 +1,3 @@
-// Whether a definition's body stands in the pool, as the rules read it.
+// Whether a message, a generic alias or an implementation stands in the pool, as the rules read it.
 pub mod implementations;
 pub mod messages;
-pub mod traits;

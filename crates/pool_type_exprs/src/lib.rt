@@ -1,6 +1,8 @@
 // Whether a type expression stands in the pool, as the rules read it.
 use image_words::Checked;
 use image_words::Section;
+use rules::bounds::TYPE_NESTING;
+use rules::bounds::TYPE_WORDS;
 use rules::kinds::TypeKind;
 ghost use Rattle.rules.specs.Reader.{fail};
 ghost use Rattle.rules.specs.ReadTypes.{type-expr-node, type-expr-tree, type-expr};
@@ -90,12 +92,12 @@ pub fn check_type_expr(image: &[u8], pool: Section, at: usize, names: u32) -> Ch
     requires { ⌜ Lies (now image) pool ⌝ }
     ensures { λ r. ⌜ Says (type-expr names) (section-words (now (image .entry)) pool) at r ⌝ }
 {
-    let c = check_type_expr_tree(image, pool, at, names, 64);
+    let c = check_type_expr_tree(image, pool, at, names, TYPE_NESTING);
     if !c.ok {
         return c;
     }
     let n = c.next;
-    if image_words::less(n, at) <= 64 {
+    if image_words::less(n, at) <= TYPE_WORDS {
         return c;
     }
     Checked { ok: false, next: 0 }

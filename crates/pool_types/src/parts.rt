@@ -1,6 +1,8 @@
 // What types are made of besides types: a sub-byte type's words, a length, names.
 use image_words::Checked;
 use image_words::Section;
+use rules::bounds::BITS_NAMES;
+use rules::bounds::SUB_BYTE_BITS;
 ghost use Prim.Native.Nat.{ℕ};
 ghost use mathlib.Core.List.{List};
 ghost use Rattle.rules.specs.Reader.{many};
@@ -22,7 +24,7 @@ pub fn check_sub(image: &[u8], pool: Section, at: usize) -> Checked
         return n;
     }
     let bits = image_words::section_word(image, pool, m);
-    if (1 <= bits) & (bits <= 64) {
+    if (1 <= bits) & (bits <= SUB_BYTE_BITS) {
         return n;
     }
     Checked { ok: false, next: 0 }
@@ -68,5 +70,5 @@ pub fn check_bits(image: &[u8], pool: Section, at: usize, names: u32) -> Checked
     requires { ⌜ Lies (now image) pool ⌝ }
     ensures { λ r. ⌜ Says (bits-inline names) (section-words (now (image .entry)) pool) at r ⌝ }
 {
-    check_names(image, pool, at, names, 62)
+    check_names(image, pool, at, names, BITS_NAMES)
 }

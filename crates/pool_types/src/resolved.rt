@@ -1,6 +1,8 @@
 // Resolved types in the pool.
 use image_words::Checked;
 use image_words::Section;
+use rules::bounds::TYPE_NESTING;
+use rules::bounds::TYPE_WORDS;
 use rules::kinds::TypeKind;
 ghost use Rattle.rules.specs.Reader.{maybe};
 ghost use Rattle.rules.specs.ReadTypes.{type-tree, resolved-type};
@@ -52,12 +54,12 @@ pub fn check_type(image: &[u8], pool: Section, at: usize, names: u32) -> Checked
     requires { ⌜ Lies (now image) pool ⌝ }
     ensures { λ r. ⌜ Says (resolved-type names) (section-words (now (image .entry)) pool) at r ⌝ }
 {
-    let c = check_tree(image, pool, at, names, 64);
+    let c = check_tree(image, pool, at, names, TYPE_NESTING);
     if !c.ok {
         return c;
     }
     let n = c.next;
-    if image_words::less(n, at) <= 64 {
+    if image_words::less(n, at) <= TYPE_WORDS {
         return c;
     }
     Checked { ok: false, next: 0 }

@@ -1,5 +1,3 @@
-// What the programs share: bytes from a descriptor, a call on an image from standard input, an answer as lines of
-// numbers.
+// What the programs share: bytes from a descriptor, a call on an image from standard input, its answer printed in lines.
 pub mod call;
 pub mod input;
-pub mod lines;

@@ -6,9 +6,9 @@ use image_layout::Layout;
 use image_words::after;
 use infer_context::Context;
 use project_statement::parts::skip_statement;
-use project_statement::returns::RETURN;
 use project_statement::returns::project_return;
 use project_statement::returns::return_mismatch;
+use rules::tags::StatementTag;
 use type_words::MaybeType;
 use write_words::put;
 ghost use Prim.Native.Nat.{_≤_};
@@ -49,7 +49,7 @@ pub fn project_statements(
             target: ctx.target,
             count: locals,
         };
-        if image_words::section_word(image, pool, next) == RETURN {
+        if image_words::section_word(image, pool, next) == StatementTag::RETURN {
             let last = i + 1 == count;
             return project_return(
                 image,

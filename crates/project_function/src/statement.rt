@@ -2,11 +2,10 @@
 use answers::refusal::Refusal;
 use image_layout::Layout;
 use infer_context::Context;
-use project_let::LET;
 use project_let::Step;
 use project_let::project_let;
-use project_statement::assigns::ASSIGN;
 use project_statement::assigns::project_assign;
+use rules::tags::StatementTag;
 ghost use Prim.Native.Nat.{_≤_};
 ghost use lib.ListN.{length};
 ghost use Rattle.image_layout.specs.Rows.{Inside};
@@ -30,11 +29,11 @@ pub fn project_step(
 {
     let pool = l.pool;
     let code = image_words::section_word(image, pool, at);
-    if code == LET {
+    if code == StatementTag::LET {
         return project_let(image, l, at, ctx, names, words, lens, out, limit, to);
     }
     let count = ctx.count;
-    if code == ASSIGN {
+    if code == StatementTag::ASSIGN {
         let done = project_assign(image, l, at, ctx, names, words, lens, out, limit, to);
         return Step { done, count };
     }

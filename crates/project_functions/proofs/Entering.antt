@@ -11,7 +11,7 @@ use Rattle.rules.specs.Signatures.{PortableSignature, resolve-params, resolve-r
 use Rattle.image_layout.specs.declared.Layout.{Layout}
 use Rattle.image_layout.specs.Rows.{Inside}
 use Rattle.image_layout.specs.Open.{pool-words}
-use Rattle.pool_definitions.specs.DefinitionAt.{Trait-return-at}
+use Rattle.pool_traits.specs.TraitAt.{Trait-return-at}
 use Rattle.type_words.specs.Holds.{MaybeHolds}
 use Rattle.locals.specs.Rows.{Rows}
 use Rattle.expected_signature.specs.Here.{Params-here, Return-here}

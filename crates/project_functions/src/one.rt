@@ -9,6 +9,8 @@ use expected_locals::enter_return;
 use expected_locals::put_signature;
 use image_layout::Layout;
 use infer_context::Context;
+use locals::LOCAL_WORDS;
+use rules::bounds::LOCAL_ROWS;
 use rules::ids::NameId;
 ghost use Prim.Native.Nat.{_≤_};
 ghost use lib.ListN.{length};
@@ -37,9 +39,9 @@ pub fn project_one(
         return answers::answer::refused(Refusal::at(11, name));
     }
     let start = f.start;
-    let mut names = [0u32; 64];
-    let mut words = [0u32; 4096];
-    let mut lens = [0u32; 64];
+    let mut names = [0u32; LOCAL_ROWS];
+    let mut words = [0u32; LOCAL_WORDS];
+    let mut lens = [0u32; LOCAL_ROWS];
     let e = enter_params(image, l, at + 1, params, &mut names, &mut words, &mut lens);
     let count = e.count;
     let t = enter_return(image, l, e.next, params);

@@ -1,16 +1,16 @@
 -- A trait's functions with the type parameters in view, where its signatures are expected. Assumes nothing.
 use Prim.Native.Nat.{ℕ, _+_, _<_, _≤_}
 use mathlib.Core.Path.{_≡_, refl, sym, ap, subst, _∙_}
-use mathlib.Core.List.{List, _++_, map}
+use mathlib.Core.List.{List, [], _++_, map}
 use native.Mathlib.Omega.{arith}
 use native.Mathlib.Nat.{min-le-left}
 use lib.ListN.{length, getD, take, length-take}
 use lib.Seq.{length-take-le}
 use Rattle.rules.specs.Syntax.{MessageDef, ImplFnDef, ImplDef}
-use Rattle.rules.specs.Refusal.{Result}
+use Rattle.rules.specs.Refusal.{Result, _>>=_}
 use Rattle.rules.specs.Substitute.{view}
 use Rattle.rules.specs.Signatures.{expected-functions}
-use Rattle.rules.specs.Project.{no-stranger}
+use Rattle.rules.specs.Project.{no-repeat, no-stranger}
 use Rattle.image_layout.specs.declared.Layout.{Layout}
 use Rattle.image_layout.specs.Rows.{Inside}
 use Rattle.image_layout.specs.Open.{pool-words}
@@ -54,9 +54,11 @@ module _ {image : List ℕ} {l : Layout} {start types : ℕ} (w : Wanted image l
     is = sym (views.as-many (w .asked) is refl equal) ∙ w .is;
   }
 
-  -- a test against the trait's names is one against the signatures'
-  pub against-names : {r : Outcome} → Passes (no-stranger (map (λ f. f .name) (w .asked .trait .functions)) (w .asked .impl .functions)) r → Passes (no-stranger (map (λ s. s .name) (w .signatures)) (w .asked .impl .functions)) r
-  against-names {r} p = subst (λ (xs : List ℕ). Passes (no-stranger xs (w .asked .impl .functions)) r) (same-names (w .asked .schema) (view (w .asked .trait .type-params) (w .asked .impl .type-args)) (w .asked .trait .functions) (sym (views.as-many (w .asked) is refl equal) ∙ w .is)) p
+  -- tests against the trait's names are tests against the signatures'
+  pub against-names : {r : Outcome} → Passes (no-repeat [] (w .asked .impl .functions) >>= λ _. no-stranger (map (λ f. f .name) (w .asked .trait .functions)) (w .asked .impl .functions)) r
+      → Passes (no-repeat [] (w .asked .impl .functions) >>= λ _. no-stranger (map (λ s. s .name) (w .signatures)) (w .asked .impl .functions)) r
+  against-names {r} p = subst (λ (xs : List ℕ). Passes (no-repeat [] (w .asked .impl .functions) >>= λ _. no-stranger xs (w .asked .impl .functions)) r)
+      (same-names (w .asked .schema) (view (w .asked .trait .type-params) (w .asked .impl .type-args)) (w .asked .trait .functions) (sym (views.as-many (w .asked) is refl equal) ∙ w .is)) p
 
 pub start-small : {image : List ℕ} {l : Layout} {start types : ℕ} → Inside image l → Asked image l start types → start < 65536
 start-small i a = pool-small i (a .trait-at .parts .name-at .inside)

@@ -3,13 +3,14 @@ use answers::answer::Outcome;
 use image_layout::Layout;
 use project_functions::list::project_list;
 use project_functions::parts::Parts;
+use subst_params::ROW;
 ghost use Rattle.image_layout.specs.Rows.{Cut};
 ghost use Rattle.expected_functions.specs.Asked.{Asked};
 ghost use Rattle.project_impl.specs.Asked.{Wanted};
 ghost use Rattle.project_impl.specs.Contracts.{ProjectsTested, ProjectsFound};
 
 // 9, then 10, then each function: of the trait at `start` with the type arguments at `types`, whose signatures are accepted.
-// One walk finds the places of the functions, for all three; all three are asked, and then their order tells.
+// One walk finds the places of the functions, for all three; the names and the functions are asked, and then their order tells.
 // The functions are gone through by the trait's names.
 fn project_tested(
     image: &[u8],
@@ -31,11 +32,9 @@ fn project_tested(
     let places = &found[..count];
     let own = impl_functions::names::own_names(image, l, places);
     let wanted = impl_functions::names::function_names(image, l, asked);
-    let repeats = impl_functions::repeats::no_repeat(&own[..count]);
-    let strangers = impl_functions::strangers::no_stranger(image, l, asked, places);
-    let tests = project_outcome::first_refusal(repeats, strangers);
+    let tests = impl_name_tests::check_names(image, l, asked, places, &own[..count]);
     let table = impl_rows::view::view(image, l, start + 1 + 1, types + 1, n);
-    let params = &table[..66 * n];
+    let params = &table[..ROW * n];
     let limit = out.len();
     let listed = project_list(
         image,

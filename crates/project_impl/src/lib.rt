@@ -15,7 +15,7 @@ pub fn project(image: &[u8], l: Layout, f: Subject, out: &mut [u8]) -> Outcome
     ensures { λ r. ⌜ Projects (now (image .entry)) l f (now (out .entry)) (now (out .exit)) r ⌝ }
 {
     let target = f.target;
-    let m = impl_functions::message::target_message(image, l, target);
+    let m = impl_target::target_message(image, l, target);
     if !m.ok {
         return answers::answer::refused(Refusal::alone(5));
     }

@@ -1,27 +1,24 @@
 -- A Let, by its tests and the row that it enters.
-use Prim.Native.Nat.{ℕ, _+_, _<_, _≤_}
+use Prim.Native.Nat.{ℕ, _+_, _<_}
 use mathlib.Core.Path.{_≡_, refl, sym, ap, subst, _∙_}
-use mathlib.Core.Bool.{true, false, not}
+use mathlib.Core.Bool.{true, false}
 use mathlib.Core.List.{List, [], _∷_, _++_}
 use mathlib.Core.Option.{Option}
 use lib.ListN.{length, getD}
-use Rattle.rules.specs.Syntax.{ResolvedType, run, Expr, Statement, Param}
-use Rattle.rules.specs.Options.{is-some}
-use Rattle.rules.specs.Refusal.{Refusal, Result, ok, err, _>>=_, with-name}
+use Rattle.rules.specs.Syntax.{ResolvedType, run, Expr, Statement}
+use Rattle.rules.specs.Refusal.{Refusal, Result, ok, err, _>>=_}
 use Rattle.rules.specs.Infer.{PortableExpr, type-of, FunctionContext, infer-expr}
 use Rattle.rules.specs.Bodies.{PortableStatement, with-local}
 use Rattle.rules.specs.Output.{value-words, statement-words}
 use Rattle.type_words.specs.Runs.{Runs}
 use Rattle.type_words.specs.Holds.{Holds}
 use Rattle.image_layout.specs.declared.Layout.{Layout}
-use Rattle.answers.specs.Refusals.{refusal-of}
 use Rattle.infer_result.specs.declared.inferred.Inferred.{Inferred}
-use Rattle.infer_result.specs.Says as says
 use Rattle.infer_result.specs.Says.{Says}
 use Rattle.write_expr_type.proofs.Arms.{held-runs}
 use Rattle.image_words.specs.Gives.{Maybe-at}
 use Rattle.pool_types.specs.TypeAt.{Type-stands}
-use Rattle.locals.specs.Rows.{Rows, Last}
+use Rattle.locals.specs.Rows.{Rows}
 use Rattle.write_words.specs.Written.{Written}
 use Rattle.write_words.proofs.Written.{written-then}
 use Rattle.pool_bodies.specs.StatementAt.{Statement-stands}
@@ -29,11 +26,12 @@ use Rattle.infer_context.specs.declared.Context.{Context}
 use Rattle.infer_context.specs.InContext.{InContext}
 use Rattle.infer_context.specs.Stood.{Stood}
 use Rattle.project_let.specs.declared.Step.{Step}
-use Rattle.project_let.specs.Made.{Made, no-local, made-let, let-words}
+use Rattle.project_let.specs.Made.{Made, made-let, let-words}
 use Rattle.project_let.specs.Agree.{counted, Step-agrees, Steps}
 use Rattle.answers.specs.declared.answer.Outcome.{Outcome}
-use Rattle.project_outcome.specs.Outcomes.{test-of, Passes, First-refusal}
-use Rattle.project_outcome.proofs.Passing.{passed, refused, not-passed, was-passed, in-order, all-refused, all-passed}
+use Rattle.project_outcome.specs.Outcomes.{test-of, Passes}
+use Rattle.project_let_tests.specs.LetTests.{no-local}
+use Rattle.project_outcome.proofs.Passing.{not-passed, was-passed, all-refused, all-passed}
 
 -- name and type, then the value
 pub written-let : {limit to : ℕ} {xs ys zs us : List ℕ} {a b d : ℕ} (x : ℕ) (v : PortableExpr)
@@ -41,36 +39,14 @@ pub written-let : {limit to : ℕ} {xs ys zs us : List ℕ} {a b d : ℕ} (x : �
 unfolding let-words statement-words
 written-let {limit} {to} {xs} {ys} {zs} {us} {a} x v h t w = written-then limit to h (written-then limit a t w)
 
--- 18, by the row k of the last local of that name
-module _ {rows : ℕ} {names words lens : List ℕ} {count x : ℕ} {ps : List (Param ResolvedType)} {k : ℕ} (w : Last rows names words lens count x ps k) (f : ℕ) (r : Outcome) where
-  pub local-seen : k < count → r .ok ≡ false → refusal-of (r .refusal) ≡ with-name 18 f x → Passes (no-local f x ps) r
-  unfolding is-some
-  local-seen h o q = refused _ _ r (ap (λ (u : Option ResolvedType). not (is-some u)) (w .found h .2)) o q
-
-  pub local-free : count ≤ k → r .ok ≡ true → Passes (no-local f x ps) r
-  unfolding is-some
-  local-free h o = passed _ _ r (ap (λ (u : Option ResolvedType). not (is-some u)) (w .missing h)) o
-
--- what typing said of a value, as a test
-module _ (rows f : ℕ) (r : Inferred) (o : Outcome) where
-  pub value-refused : (p : Result PortableExpr) → Says rows f p r → (r .number ≡ 0 → ⊥) → (o .ok ≡ false) × (refusal-of (o .refusal) ≡ says.refusal-of f r) → Passes (test-of p) o
-  unfolding _>>=_
-  value-refused (ok v) h n d = absurd (n (h .0))
-  value-refused (err e) h n d = record { is = (d .0, d .1 ∙ h .1) }
-
-  pub value-passes : (p : Result PortableExpr) → Says rows f p r → r .number ≡ 0 → o .ok ≡ true → Passes (test-of p) o
-  unfolding _>>=_
-  value-passes (ok v) h n y = record { is = y }
-  value-passes (err e) h n y = absurd (h .0 n)
-
 -- 18, then the value
 abbrev let-tests : FunctionContext → ℕ → Option ResolvedType → Expr → Result (Unit {0})
 let-tests c x t e = no-local (c .function) x (c .locals) >>= λ _. test-of (infer-expr c e t 3)
 
-pub let-tested : (c : FunctionContext) (x : ℕ) (t : Option ResolvedType) (e : Expr) (rows : ℕ) {f : ℕ} → f ≡ c .function → (r : Inferred) {a b o : Outcome} → First-refusal a b o → Passes (no-local f x (c .locals)) a
-    → ((rows : ℕ) (p : Result PortableExpr) → Says rows f p r → Passes (test-of p) b) → Says rows (c .function) (infer-expr c e t 3) r → Passes (let-tests c x t e) o
-let-tested c x t e rows q r {a} first p v h =
-    in-order first (subst (λ (k : ℕ). Passes (no-local k x (c .locals)) a) q p) (v rows (infer-expr c e t 3) (subst (λ (k : ℕ). Says rows k (infer-expr c e t 3) r) (sym q) h))
+pub let-tested : (c : FunctionContext) (x : ℕ) (t : Option ResolvedType) (e : Expr) (rows : ℕ) {f : ℕ} → f ≡ c .function → (r : Inferred) {o : Outcome}
+    → ((p : Result PortableExpr) → Says rows f p r → Passes (no-local f x (c .locals) >>= λ _. test-of p) o) → Says rows (c .function) (infer-expr c e t 3) r → Passes (let-tests c x t e) o
+let-tested c x t e rows q r {o} v h =
+    subst (λ (k : ℕ). Passes (no-local k x (c .locals) >>= λ _. test-of (infer-expr c e t 3)) o) q (v (infer-expr c e t 3) (subst (λ (k : ℕ). Says rows k (infer-expr c e t 3) r) (sym q) h))
 
 module _ (c : FunctionContext) (x : ℕ) (t : Option ResolvedType) (e : Expr) where
   let-err : {z : Refusal} → let-tests c x t e ≡ err z → made-let c x t e ≡ err z

@@ -3,29 +3,22 @@ use Prim.Native.Nat.{ℕ, _<_}
 use mathlib.Core.List.{List}
 use mathlib.Core.Option.{Option}
 use mathlib.Core.Path.{_≡_}
-use Rattle.answers.specs.declared.answer.Outcome.{Outcome}
 use Rattle.image_layout.specs.Open.{pool-words}
 use Rattle.image_layout.specs.declared.Layout.{Layout}
 use Rattle.image_words.specs.Gives.{Maybe-at}
 use Rattle.infer_context.specs.InContext.{AtContext}
 use Rattle.infer_context.specs.Stood.{AtExpr}
 use Rattle.infer_context.specs.declared.Context.{Context}
-use Rattle.infer_result.specs.Says.{Says}
-use Rattle.infer_result.specs.declared.inferred.Inferred.{Inferred}
-use Rattle.locals.specs.Rows.{Rows}
 use Rattle.pool_bodies.specs.StatementAt.{Statement-stands}
 use Rattle.pool_types.specs.TypeAt.{Type-stands}
-use Rattle.project_outcome.specs.Outcomes.{test-of, Passes}
-use Rattle.rules.specs.Infer.{PortableExpr}
-use Rattle.rules.specs.Refusal.{Result}
-use Rattle.rules.specs.Syntax.{ResolvedType, Expr, Statement, Param}
+use Rattle.rules.specs.Syntax.{ResolvedType, Expr, Statement}
 use Rattle.rules.specs.declared.ids.NameId.{NameId}
 use Rattle.type_words.specs.Holds.{MaybeHolds}
 use Rattle.type_words.specs.declared.HeldType.{HeldType}
 use Rattle.write_expr.specs.Writes.{WritesOf}
 use Rattle.project_let.specs.Agree.{Steps}
 use Rattle.project_let.specs.declared.written.Wanted.{Wanted}
-use Rattle.project_let.specs.Made.{let-words, made-let, no-local}
+use Rattle.project_let.specs.Made.{let-words, made-let}
 use Rattle.project_let.specs.declared.Step.{Step}
 
 -- the words of a Let whose value was accepted
@@ -39,16 +32,6 @@ ProjectsLet image l at ctx names names' words words' lens lens' out out' limit t
     AtContext image l names words lens ctx (λ c. (x : ℕ) (t : Option ResolvedType) (e : Expr) (n : ℕ)
     → Statement-stands (l .names .rows) (l .strings .rows) (pool-words image l) (Statement.let-local x t e) at n → ctx .count < 64
     → Steps image l names' words' lens' ctx limit to out out' r 1 (made-let c x t e))
-
--- 18, or no local in view has that name
-abbrev pub TellsLocal : List ℕ → ℕ → NameId → NameId → Outcome → Type 0
-TellsLocal names count function name r =
-    (rows : ℕ) (words lens : List ℕ) (ps : List (Param ResolvedType)) → Rows rows names words lens count 0 ps
-    → Passes (no-local (function .0) (name .0) ps) r
-
--- the refusal of a value, or that it has none
-abbrev pub ChecksValue : NameId → Inferred → Outcome → Type 0
-ChecksValue function r o = (rows : ℕ) (p : Result PortableExpr) → Says rows (function .0) p r → Passes (test-of p) o
 
 -- the type written on a Let, or none, and the place behind it
 abbrev pub TellsWrittenType : List ℕ → Layout → ℕ → Wanted → Type 0

@@ -1,22 +1,17 @@
 -- What the rules make of a Let.
 use Prim.Native.Nat.{ℕ}
-use mathlib.Core.Bool.{not}
 use mathlib.Core.List.{List}
 use mathlib.Core.Option.{Option}
-use Rattle.rules.specs.Syntax.{ResolvedType, Expr, Param}
-use Rattle.rules.specs.Options.{is-some}
-use Rattle.rules.specs.Refusal.{Result, ok, _>>=_, ensure, with-name}
-use Rattle.rules.specs.Infer.{PortableExpr, type-of, FunctionContext, find-last, infer-expr}
+use Rattle.rules.specs.Syntax.{ResolvedType, Expr}
+use Rattle.rules.specs.Refusal.{Result, ok, _>>=_}
+use Rattle.rules.specs.Infer.{PortableExpr, type-of, FunctionContext, infer-expr}
 use Rattle.rules.specs.Bodies.{PortableStatement, with-local}
 use Rattle.rules.specs.Output.{statement-words}
+use Rattle.project_let_tests.specs.LetTests.{no-local}
 
 -- a typed statement, and the context of those behind it
 abbrev pub Made : Type 0
 Made = PortableStatement × FunctionContext
-
--- 18: no local in view has this name
-abbrev pub no-local : ℕ → ℕ → List (Param ResolvedType) → Result (Unit {0})
-no-local f x locals = ensure (not (is-some (find-last x locals))) (with-name 18 f x)
 
 unfoldable pub made-let : FunctionContext → ℕ → Option ResolvedType → Expr → Result Made
 made-let c x t e = do

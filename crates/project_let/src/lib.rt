@@ -3,15 +3,16 @@ use crate::written::written_type;
 use answers::answer::Outcome;
 use image_layout::Layout;
 use infer_context::Context;
+use rules::bounds::LOCAL_ROWS;
+use rules::bounds::NESTING;
 use rules::ids::NameId;
+use rules::tags::StatementTag;
 use type_words::HeldType;
-use write_words::put;
-ghost use Prim.Native.Nat.{_<_, _≤_};
+ghost use Prim.Native.Nat.{_≤_};
 ghost use lib.ListN.{length};
 ghost use Rattle.image_layout.specs.Rows.{Inside};
 ghost use Rattle.project_let.specs.Contracts.{WritesLet, ProjectsLet};
 
-mod tests;
 mod written;
 
 // What comes of one statement: its refusal, or where the next word goes; and how many locals are in view behind it.
@@ -19,12 +20,6 @@ pub struct Step {
     pub done: Outcome,
     pub count: usize,
 }
-
-// Its code.
-pub const LET: u32 = 1;
-
-// How deep an expression nests at most.
-const NESTING: u32 = 32;
 
 // The context of its value.
 const LOCAL_BINDING: u32 = 3;
@@ -47,9 +42,8 @@ fn write_let(
     requires { ⌜ Inside (now image) l × (limit ≤ length (now out)) ⌝ }
     ensures { λ r. ⌜ WritesLet (now (image .entry)) l ctx (now (names .entry)) (now (words .entry)) (now (lens .entry)) at name ty (now (out .entry)) (now (out .exit)) limit to r ⌝ }
 {
-    let a = put(out, limit, to, LET);
-    let b = put(out, limit, a, name.0);
-    let d = write_words::put_type(out, limit, b, ty);
+    let a = write_words::put_two(out, limit, to, StatementTag::LET, name.0);
+    let b = write_words::put_type(out, limit, a, ty);
     write_expr::write_expr(
         image,
         l,
@@ -62,7 +56,7 @@ fn write_let(
         ty,
         out,
         limit,
-        d,
+        b,
     )
 }
 
@@ -85,12 +79,11 @@ pub fn project_let(
 {
     let count = ctx.count;
     let function = ctx.function;
-    if 64 <= count {
+    if LOCAL_ROWS <= count {
         let done = answers::answer::accepted(to, 0);
         return Step { done, count };
     }
     let name = NameId(infer_context::operand(image, l, at));
-    let free = crate::tests::no_local(names, count, function, name);
     let w = written_type(image, l, infer_context::first_part(l, at));
     let expected = w.ty;
     let value = w.next;
@@ -106,8 +99,7 @@ pub fn project_let(
         expected,
         LOCAL_BINDING,
     );
-    let typed = crate::tests::check_value(function, r);
-    let done = project_outcome::first_refusal(free, typed);
+    let done = project_let_tests::check_let(names, count, function, name, r);
     if !done.ok {
         return Step { done, count };
     }

@@ -12,7 +12,7 @@ use Rattle.rules.specs.Bodies.{assigned-field}
 use Rattle.rules.specs.declared.kinds.ExprKind.{ExprKind}
 use Rattle.rules.proofs.Clash.{clash}
 use Rattle.laws.specs.Runs.{expr-words}
-use Rattle.pool_bodies.proofs.ExprAt.{value-shape}
+use Rattle.pool_expressions.proofs.ExprAt.{value-shape}
 use Rattle.image_words.proofs.Heads.{head}
 use Rattle.infer_context.specs.Stood.{Stood}
 use Rattle.infer_context.proofs.Nodes.{node, by-code, field-word, receiver}

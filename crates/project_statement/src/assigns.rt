@@ -1,13 +1,14 @@
 // Assignments to a field of SelfRef.
-use crate::value::NESTING;
 use crate::value::project_value;
 use answers::answer::Outcome;
 use answers::refusal::Refusal;
 use image_layout::Layout;
 use image_words::after;
 use infer_context::Context;
+use rules::bounds::NESTING;
 use rules::ids::NameId;
-use write_words::put;
+use rules::tags::ExprTag;
+use rules::tags::StatementTag;
 ghost use Prim.Native.Nat.{ℕ, _≤_};
 ghost use lib.ListN.{length};
 ghost use Rattle.rules.specs.Infer.{place};
@@ -22,13 +23,6 @@ pub struct Assigned {
     pub field: NameId,
 }
 
-// Its code.
-pub const ASSIGN: u32 = 3;
-
-const FIELD_ACCESS: u32 = 7;
-
-const SELF_REF: u32 = 6;
-
 // The context of its value.
 const FIELD_ASSIGNMENT: u32 = 5;
 
@@ -39,10 +33,12 @@ pub fn assigned_field(image: &[u8], l: Layout, at: usize) -> Assigned
 {
     let pool = l.pool;
     let field = NameId(infer_context::operand(image, l, at));
-    if image_words::section_word(image, pool, at) != FIELD_ACCESS {
+    if image_words::section_word(image, pool, at) != ExprTag::FIELD_ACCESS {
         return Assigned { ok: false, field };
     }
-    if image_words::section_word(image, pool, infer_context::first_part(l, at)) != SELF_REF {
+    if image_words::section_word(image, pool, infer_context::first_part(l, at))
+        != ExprTag::SELF_REF
+    {
         return Assigned { ok: false, field };
     }
     Assigned { ok: true, field }
@@ -76,8 +72,7 @@ pub fn project_assign(
     if !ty.some {
         return answers::answer::refused(Refusal::named(17, function, field));
     }
-    let a = put(out, limit, to, ASSIGN);
-    let b = put(out, limit, a, field.0);
+    let a = write_words::put_two(out, limit, to, StatementTag::ASSIGN, field.0);
     let value = infer_context::skip_expr(image, l, target, NESTING);
     project_value(
         image,
@@ -91,6 +86,6 @@ pub fn project_assign(
         FIELD_ASSIGNMENT,
         out,
         limit,
-        b,
+        a,
     )
 }

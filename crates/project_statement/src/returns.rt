@@ -5,8 +5,9 @@ use answers::refusal::Refusal;
 use image_layout::Layout;
 use infer_context::Context;
 use rules::ids::NameId;
+use rules::tags::StatementTag;
 use type_words::MaybeType;
-use write_words::put;
+use write_words::put_two;
 ghost use mathlib.Core.Path.{_≡_};
 ghost use mathlib.Core.Bool.{false};
 ghost use mathlib.Core.List.{[], _∷_};
@@ -16,9 +17,6 @@ ghost use Rattle.rules.specs.Refusal.{with-detail};
 ghost use Rattle.answers.specs.Refusals.{refusal-of};
 ghost use Rattle.image_layout.specs.Rows.{Inside};
 ghost use Rattle.project_statement.specs.Contracts.{ReturnsNothing, ReturnsValue, ProjectsReturn};
-
-// Its code.
-pub const RETURN: u32 = 2;
 
 // The context of its value.
 const RETURN_VALUE: u32 = 4;
@@ -48,9 +46,8 @@ fn return_nothing(
     if !last {
         return answers::answer::refused(Refusal::at(23, function));
     }
-    let a = put(out, limit, to, RETURN);
-    let b = put(out, limit, a, 0);
-    answers::answer::accepted(b, 0)
+    let a = put_two(out, limit, to, StatementTag::RETURN, 0);
+    answers::answer::accepted(a, 0)
 }
 
 // A Return of the value at `at`.
@@ -75,8 +72,7 @@ fn return_value(
     if !returns.some {
         return return_mismatch(function, 0);
     }
-    let a = put(out, limit, to, RETURN);
-    let b = put(out, limit, a, 1);
+    let a = put_two(out, limit, to, StatementTag::RETURN, 1);
     let r = project_value(
         image,
         l,
@@ -89,7 +85,7 @@ fn return_value(
         RETURN_VALUE,
         out,
         limit,
-        b,
+        a,
     );
     if !r.ok {
         return r;

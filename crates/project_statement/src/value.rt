@@ -2,14 +2,12 @@
 use answers::answer::Outcome;
 use image_layout::Layout;
 use infer_context::Context;
+use rules::bounds::NESTING;
 use type_words::MaybeType;
 ghost use Prim.Native.Nat.{_≤_};
 ghost use lib.ListN.{length};
 ghost use Rattle.image_layout.specs.Rows.{Inside};
 ghost use Rattle.project_statement.specs.Contracts.{ProjectsValue};
-
-// How deep an expression may nest.
-pub const NESTING: u32 = 32;
 
 // The value at `at` under an expected type or none; a mismatch is refused in the caller's context.
 pub fn project_value(

@@ -1,4 +1,5 @@
-// Stored cases and their labels as the files have them, and what a buffer is to hold after a call.
+// Stored cases and their labels as the files have them, and an answer held against a case.
 pub mod buffers;
 pub mod case;
 pub mod labels;
+pub mod verdict;

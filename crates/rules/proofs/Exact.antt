@@ -24,9 +24,6 @@ module _ {A : Type 0} {r : Reader A} {words : A → List ℕ} {Good : A → Type
       let t : _≡_ {A = A × Rest} (a, record { at = 0 + length (words a); left = xs }) (b, record { at = 0 + length (words b); left = ys }) = cc in
       (ap (λ (p : A × Rest). p .0) t, ap (λ (p : A × Rest). p .1 .left) t)
 
-  pub injective : (a b : A) → Good a → Good b → words a ≡ words b → a ≡ b
-  injective a b g h e = prefix-free a b [] [] g h (ap (λ (l : List ℕ). l ++ []) e) .0
-
   -- what a reading gives stood there and is good
   pub stands : (p : Rest) (a : A) (q : Rest) → r p ≡ some (a, q) → (p .left ≡ words a ++ q .left) × (q .at ≡ p .at + length (words a)) × Good a
   stands p a q e =

@@ -8,8 +8,8 @@ use Rattle.rules.specs.Syntax.{Expr, Exprs}
 use Rattle.rules.specs.Kinds.{expr-kind}
 use Rattle.rules.specs.declared.kinds.ExprKind.{ExprKind}
 use Rattle.laws.specs.Runs.{count}
-use Rattle.pool_bodies.specs.ExprAt.{Expr-at, Exprs-at}
-use Rattle.pool_bodies.proofs.ExprAt.{value-shape, value-shape-at}
+use Rattle.pool_expressions.specs.ExprAt.{Expr-at, Exprs-at}
+use Rattle.pool_expressions.proofs.ExprAt.{value-shape, value-shape-at}
 use Rattle.skip_types.specs.declared.Node.{Node}
 use Rattle.skip_types.specs.Pending.{Pending}
 use Rattle.skip_types.proofs.Pending.{none-left, one-left, two-left, more-left, numbered, moved}

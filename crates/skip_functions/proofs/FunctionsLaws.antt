@@ -10,7 +10,7 @@ use Rattle.image_words.specs.Gives.{Row, Counted, Maybe-at}
 use Rattle.pool_types.specs.TypeAt.{Type-stands}
 use Rattle.pool_types.specs.ParamAt.{Param-at}
 use Rattle.pool_type_exprs.specs.TypeExprAt.{Type-expr-at, Type-expr-stands}
-use Rattle.pool_definitions.specs.DefinitionAt.{Trait-return-at}
+use Rattle.pool_traits.specs.TraitAt.{Trait-return-at}
 use Rattle.skip_types.specs.Pending.{Pending}
 use Rattle.skip_types.proofs.Pending.{none-left, more-left, numbered}
 

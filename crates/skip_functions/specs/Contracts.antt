@@ -7,7 +7,7 @@ use lib.ListN.{getD}
 use Rattle.image_words.specs.Gives.{Maybe-at, Counted}
 use Rattle.image_words.specs.Verdict.{section-words}
 use Rattle.image_words.specs.declared.Section.{Section}
-use Rattle.pool_bodies.specs.ExprAt.{Expr-stands}
+use Rattle.pool_expressions.specs.ExprAt.{Expr-stands}
 use Rattle.pool_type_exprs.specs.TypeExprAt.{Type-expr-stands}
 use Rattle.pool_types.specs.ParamAt.{Param-at}
 use Rattle.pool_types.specs.TypeAt.{Type-stands}

@@ -3,10 +3,10 @@ use image_words::Section;
 use rules::kinds::ExprKind;
 use skip_types::Node;
 ghost use mathlib.Core.Path.{_≡_};
-ghost use Prim.Native.Nat.{ℕ, _+_, _<_};
+ghost use Prim.Native.Nat.{ℕ, _<_};
 ghost use Rattle.rules.specs.Syntax.{Expr};
 ghost use Rattle.image_words.specs.Verdict.{section-words, Lies};
-ghost use Rattle.pool_bodies.specs.ExprAt.{Expr-at};
+ghost use Rattle.pool_expressions.specs.ExprAt.{Expr-at};
 ghost use Rattle.skip_types.specs.Pending.{Pending};
 ghost use Rattle.skip_functions.specs.Contracts.{CountsNode, SkipsMaybeExpr};
 

@@ -6,7 +6,8 @@ ghost use Rattle.rules.specs.Syntax.{ImplFnDef, TraitReturn, TraitFnDef};
 ghost use Rattle.image_words.specs.Verdict.{section-words, Lies};
 ghost use Rattle.pool_types.specs.ParamAt.{Param-at};
 ghost use Rattle.pool_type_exprs.specs.TypeExprAt.{Type-expr-at};
-ghost use Rattle.pool_definitions.specs.DefinitionAt.{Function-at, Trait-return-at, Trait-function-at};
+ghost use Rattle.pool_traits.specs.TraitAt.{Trait-return-at, Trait-function-at};
+ghost use Rattle.pool_definitions.specs.DefinitionAt.{Function-at};
 ghost use Rattle.skip_types.specs.Pending.{Pending};
 ghost use Rattle.skip_functions.specs.Contracts.{SkipsParams, SkipsExprParams};
 

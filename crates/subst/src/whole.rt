@@ -1,5 +1,6 @@
 // A whole expression's answer.
 use image_layout::Layout;
+use rules::bounds::VISITS;
 use type_words::HeldType;
 ghost use Rattle.image_layout.specs.Rows.{Cut};
 ghost use Rattle.subst.specs.Answers.{AnswersAll};
@@ -17,11 +18,11 @@ pub fn substitute(image: &[u8], l: Layout, at: usize, params: &[u32]) -> Substit
     requires { ⌜ Cut (now image) l ⌝ }
     ensures { λ r. ⌜ AnswersAll (now (image .entry)) l at (now (params .entry)) r ⌝ }
 {
-    let r = crate::cycle::substitute_type(image, l, at, 1024, params);
+    let r = crate::cycle::substitute_type(image, l, at, VISITS, params);
     let ty = r.ty;
     Substituted {
         ok: r.ok,
-        visits: 1024 - r.left,
+        visits: VISITS - r.left,
         next: r.next,
         ty,
     }

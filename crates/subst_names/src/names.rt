@@ -1,8 +1,10 @@
 // Names: the primitive or the definition behind one.
 use image_layout::Layout;
+use image_layout::NOWHERE;
 use rules::ids::NameId;
 use rules::ids::PrimitiveType;
 use rules::ids::TypeId;
+use rules::tags::TypeTag;
 use type_words::HeldType;
 use type_words::MaybeType;
 ghost use Prim.Native.Nat.{_<_};
@@ -17,9 +19,6 @@ ghost use Rattle.image_layout.specs.Open.{Open, AliasStands, pool-words};
 ghost use Rattle.type_words.specs.Holds.{MaybeHolds};
 ghost use Rattle.subst_names.specs.Contracts.{ResolvesName, ResolvesQualified};
 
-// The place of an alias that is not there.
-const NOWHERE: u32 = 4294967295;
-
 // The number of a Named alias, else NONE.
 fn alias_number(image: &[u8], l: Layout, start: u32) -> TypeId
     requires { ⌜ Inside (now image) l ⌝ }
@@ -30,7 +29,7 @@ fn alias_number(image: &[u8], l: Layout, start: u32) -> TypeId
     }
     let pool = l.pool;
     let at = start as usize;
-    if image_words::section_word(image, pool, at) != HeldType::NAMED {
+    if image_words::section_word(image, pool, at) != TypeTag::NAMED {
         return TypeId::NONE;
     }
     TypeId(image_words::section_word(image, pool, at + 1))
@@ -92,7 +91,7 @@ pub fn resolve_qualified(image: &[u8], l: Layout, namespace: NameId, x: NameId) 
 {
     let names = l.names;
     let words = names.words;
-    let row = image_texts::qualified::find_qualified(
+    let row = image_qualified::find_qualified(
         image,
         words.start,
         names.rows as usize,

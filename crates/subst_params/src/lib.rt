@@ -1,4 +1,5 @@
 // Type parameters in view with their arguments: a lent table, a row for each.
+use rules::bounds::TYPE_WORDS;
 use rules::ids::NameId;
 use type_words::HeldType;
 use type_words::MaybeType;
@@ -22,10 +23,10 @@ fn argument(table: &[u32], at: usize) -> HeldType
         return HeldType::empty();
     }
     let n = table[at + 1] as usize;
-    if 64 < n {
+    if TYPE_WORDS < n {
         return HeldType::empty();
     }
-    let mut words = [0u32; 64];
+    let mut words = [0u32; TYPE_WORDS];
     let mut i = 0;
     while i < n {
         words[i] = table[at + 2 + i];
@@ -58,7 +59,7 @@ pub fn write_row(table: &mut [u32], at: usize, name: NameId, ty: HeldType)
     table[at] = name.0;
     table[at + 1] = n as u32;
     let mut i = 0;
-    while i < 64 {
+    while i < TYPE_WORDS {
         table[at + 2 + i] = words[i];
         i += 1;
     }

@@ -1,6 +1,7 @@
 // A resolved type copied out of the pool.
 use image_layout::Layout;
 use image_words::Section;
+use rules::bounds::TYPE_WORDS;
 use type_words::HeldType;
 ghost use Prim.Native.Nat.{ℕ, _≤_};
 ghost use mathlib.Core.List.{List};
@@ -24,10 +25,10 @@ fn copy(image: &[u8], pool: Section, at: usize, end: usize) -> HeldType
     ensures { λ r. ⌜ ((run : List ℕ) → Stands (section-words (now (image .entry)) pool) run at end → length run ≤ 64 → Runs r run) ⌝ }
 {
     let n = image_words::less(end, at);
-    if 64 < n {
+    if TYPE_WORDS < n {
         return HeldType::empty();
     }
-    let mut words = [0u32; 64];
+    let mut words = [0u32; TYPE_WORDS];
     let mut i = 0;
     while i < n {
         words[i] = image_words::section_word(image, pool, at + i);

@@ -1,5 +1,2 @@
 pub mod Tests
-pub mod Headers
-pub mod Ranges
-pub mod Literals
 pub mod Edges

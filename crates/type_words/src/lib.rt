@@ -5,10 +5,12 @@ ghost use mathlib.Core.List.{[], _∷_, _++_};
 ghost use Prim.Native.Nat.{_≤_};
 ghost use lib.ListN.{length, getD};
 ghost use Rattle.type_words.specs.Runs.{held-run, Runs, Grows};
+use rules::bounds::TYPE_WORDS;
 use rules::ids::TypeId;
+use rules::tags::TypeTag;
 
 pub struct HeldType {
-    pub words: [u32; 64],
+    pub words: [u32; TYPE_WORDS],
     pub len: usize,
 }
 
@@ -25,21 +27,12 @@ pub struct Grown {
 }
 
 impl HeldType {
-    // Codes that no other type names.
-    pub const SUB_BYTE: u32 = 16;
-
-    pub const STRING: u32 = 32;
-
-    pub const NAMED: u32 = 48;
-
-    pub const FIXED_ARRAY: u32 = 66;
-
     // How many words the run has.
     pub fn count(self) -> usize
         ensures { λ r. ⌜ (r ≡ length (held-run self)) × (r ≤ 64) ⌝ }
     {
         let n = self.len;
-        if n < 64 { n } else { 64 }
+        if n < TYPE_WORDS { n } else { TYPE_WORDS }
     }
 
     // A word of the run, 0 past its end.
@@ -54,7 +47,7 @@ impl HeldType {
         ensures { λ r. ⌜ Runs r [] ⌝ }
     {
         HeldType {
-            words: [0u32; 64],
+            words: [0u32; TYPE_WORDS],
             len: 0,
         }
     }
@@ -63,7 +56,7 @@ impl HeldType {
     pub fn plain(code: u32) -> HeldType
         ensures { λ r. ⌜ Runs r (code ∷ []) ⌝ }
     {
-        let mut words = [0u32; 64];
+        let mut words = [0u32; TYPE_WORDS];
         words[0] = code;
         HeldType { words, len: 1 }
     }
@@ -71,8 +64,8 @@ impl HeldType {
     pub fn named(id: TypeId) -> HeldType
         ensures { λ r. ⌜ Runs r (48 ∷ id .0 ∷ []) ⌝ }
     {
-        let mut words = [0u32; 64];
-        words[0] = HeldType::NAMED;
+        let mut words = [0u32; TYPE_WORDS];
+        words[0] = TypeTag::NAMED;
         words[1] = id.0;
         HeldType { words, len: 2 }
     }
@@ -83,7 +76,7 @@ impl HeldType {
     {
         let n = self.count();
         let m = other.count();
-        if 64 - n < m {
+        if TYPE_WORDS - n < m {
             return Grown {
                 ok: false,
                 ty: self,
@@ -113,7 +106,7 @@ impl HeldType {
     pub fn fixed(low: u32, high: u32, part: HeldType) -> Grown
         ensures { λ r. ⌜ Grows (66 ∷ low ∷ high ∷ held-run part) r ⌝ }
     {
-        HeldType::header(HeldType::FIXED_ARRAY, low, high).append(part)
+        HeldType::header(TypeTag::FIXED_ARRAY, low, high).append(part)
     }
 
     // A code and two parts: Map, Result.
@@ -132,7 +125,7 @@ impl HeldType {
     fn header(code: u32, low: u32, high: u32) -> HeldType
         ensures { λ r. ⌜ Runs r (code ∷ low ∷ high ∷ []) ⌝ }
     {
-        let mut words = [0u32; 64];
+        let mut words = [0u32; TYPE_WORDS];
         words[0] = code;
         words[1] = low;
         words[2] = high;

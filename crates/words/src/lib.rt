@@ -1,6 +1,6 @@
 // Little-endian words in a slice of bytes: reading, and writing below a limit.
 ghost use mathlib.Core.Path.{_≡_};
-ghost use Prim.Native.Nat.{_+_, _*_, _≤_, _<_};
+ghost use Prim.Native.Nat.{_+_, _≤_, _<_};
 ghost use lib.ListN.{length, getD};
 ghost use Rattle.words.specs.Words.{word-at};
 ghost use Rattle.words.specs.Puts.{put};

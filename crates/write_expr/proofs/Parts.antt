@@ -15,7 +15,7 @@ use Rattle.laws.specs.Runs.{expr-words}
 use Rattle.type_words.specs.declared.HeldType.{HeldType}
 use Rattle.type_words.specs.Runs.{Runs}
 use Rattle.image_words.specs.Stands.{Stands}
-use Rattle.pool_bodies.proofs.ExprAt.{value-shape}
+use Rattle.pool_expressions.proofs.ExprAt.{value-shape}
 use Rattle.image_words.proofs.Heads.{head, first}
 use Rattle.infer_context.specs.Stood.{Stood}
 use Rattle.infer_context.proofs.Nodes.{node, by-code}

@@ -2,6 +2,7 @@
 use image_layout::Layout;
 use infer_context::Context;
 use rules::kinds::ExprKind;
+use rules::tags::ExprTag;
 use type_words::HeldType;
 use write_expr_type::operand_type;
 use write_words::put_type;
@@ -55,7 +56,7 @@ pub fn write_expr(
     let next = put_type(out, limit, to, ty);
     let pool = l.pool;
     let code = image_words::section_word(image, pool, at);
-    if code == 10 {
+    if code == ExprTag::BINARY {
         return write_binary(
             image,
             l,
@@ -71,7 +72,7 @@ pub fn write_expr(
             next,
         );
     }
-    if code == 11 {
+    if code == ExprTag::UNARY {
         return write_unary(
             image,
             l,

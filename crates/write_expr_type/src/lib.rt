@@ -3,6 +3,7 @@ use image_layout::Layout;
 use infer_context::Context;
 use rules::ids::PrimitiveType;
 use rules::kinds::ExprKind;
+use rules::tags::TypeTag;
 use type_words::HeldType;
 use type_words::MaybeType;
 ghost use mathlib.Core.Option.{Option};
@@ -63,7 +64,7 @@ pub fn foretell(
     match k {
         ExprKind::Literal => infer_leaves::literal_own(image_words::section_word(image, pool, at)),
         ExprKind::Flag => HeldType::plain(PrimitiveType::BOOL),
-        ExprKind::Text => HeldType::plain(HeldType::STRING),
+        ExprKind::Text => HeldType::plain(TypeTag::STRING),
         ExprKind::Local => foretell_place(image, l, ctx, names, words, lens, at),
         ExprKind::SelfRef => foretell_place(image, l, ctx, names, words, lens, at),
         ExprKind::FieldAccess => foretell_place(image, l, ctx, names, words, lens, at),

@@ -19,8 +19,13 @@ module _ (limit to : ℕ) where
   unfolding puts
   written-one w xs r ys e = record { so = λ h. (omega (arith, e .0), e .1) }
 
-  pub written-far : (w : ℕ) (xs : List ℕ) → 1000000000 < to → Written limit to (w ∷ []) xs to xs
-  written-far w xs l = record { so = λ h. absurd (omega arith) }
+  pub written-two : (v w : ℕ) (xs : List ℕ) (r : ℕ) (ys : List ℕ) → (r ≡ to + 8) × (ys ≡ put limit (to + 4) w (put limit to v xs)) → Written limit to (v ∷ w ∷ []) xs r ys
+  unfolding puts
+  written-two v w xs r ys e = record { so = λ h. (omega (arith, e .0), e .1) }
+
+  -- words that would end past a billion
+  pub written-far : (ws xs : List ℕ) → 1000000000 < to + 4 * length ws → Written limit to ws xs to xs
+  written-far ws xs l = record { so = λ h. absurd (omega (arith, l, h)) }
 
   -- a run behind a run
   pub written-then : {vs ws xs ys zs : List ℕ} {a r : ℕ} → Written limit to vs xs a ys → Written limit a ws ys r zs → Written limit to (vs ++ ws) xs r zs

@@ -1,4 +1,4 @@
-// Words written below a limit: one, a held type's, some of the pool's. None asks where it starts: past a billion nothing is promised.
+// Words written below a limit: one, two, a held type's, some of the pool's. None asks where it starts: past a billion nothing is promised.
 use image_layout::Layout;
 use type_words::HeldType;
 ghost use mathlib.Core.Path.{_≡_};
@@ -13,6 +13,9 @@ ghost use Rattle.write_words.specs.Written.{Written};
 
 const FAR: usize = 1000000000;
 
+// Past it a second word would start past FAR.
+const FAR_FOR_TWO: usize = FAR - 4;
+
 // One word, and where the next goes.
 pub fn put(out: &mut [u8], limit: usize, to: usize, w: u32) -> usize
     requires { ⌜ limit ≤ length (now out) ⌝ }
@@ -22,6 +25,17 @@ pub fn put(out: &mut [u8], limit: usize, to: usize, w: u32) -> usize
         return to;
     }
     writer::write(&mut out[..limit], to, w)
+}
+
+// Two words through one writer, and where the next goes.
+pub fn put_two(out: &mut [u8], limit: usize, to: usize, v: u32, w: u32) -> usize
+    requires { ⌜ limit ≤ length (now out) ⌝ }
+    ensures { λ r. ⌜ Written limit to (v ∷ w ∷ []) (now (out .entry)) r (now (out .exit)) ⌝ }
+{
+    if FAR_FOR_TWO < to {
+        return to;
+    }
+    writer::write_two(&mut out[..limit], to, v, w)
 }
 
 // A type's run.

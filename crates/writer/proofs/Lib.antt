@@ -1,1 +1,4 @@
-pub mod Held
+pub mod Shape
+pub mod Moves
+pub mod Loan
+pub mod Uses

@@ -2,7 +2,7 @@
 use native.Mathlib.Omega.{arith}
 use Rattle.image_sections.proofs.Trailers.{parts, fewer, joined}
 use borrow.Author.Needs.{needs}
-use Rattle.image_sections.specs.Trailers.{meant}
+use Rattle.image_trailer.specs.Trailers.{meant}
 use Rattle.image_sections.proofs.layout_of.Statement.{statement}
 use Rattle.image_sections.proofs.layout_of.Tie as tie
 

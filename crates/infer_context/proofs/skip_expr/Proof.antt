@@ -2,7 +2,7 @@
 use borrow.Author.Needs.{needs}
 use Rattle.laws.proofs.Expressions.{tree-exact}
 use Rattle.image_words.proofs.Gives.{of}
-use Rattle.pool_bodies.proofs.ExprAt.{expr-tree-gives}
+use Rattle.pool_expressions.proofs.ExprAt.{expr-tree-gives}
 use Rattle.image_words.proofs.Stands.{reads-at}
 use Rattle.infer_context.proofs.skip_expr.Statement.{statement}
 use Rattle.infer_context.proofs.skip_expr.Tie as tie

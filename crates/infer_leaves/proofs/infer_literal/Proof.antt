@@ -6,7 +6,7 @@ use mathlib.Core.Path.{_≡_, subst, subst₂, _∙_}
 use Rattle.rules.specs.Fits.{literal-own}
 use Rattle.rules.specs.Infer.{type-mismatch}
 use Rattle.type_words.specs.Holds.{MaybeHolds}
-use Rattle.type_tests.specs.Literals.{literal-type}
+use Rattle.literal_fits.specs.Literals.{literal-type}
 use Rattle.infer_result.specs.Says.{Says}
 use Rattle.infer_leaves.proofs.Literals.{words-of, says-typed, says-mismatch}
 use Rattle.infer_leaves.proofs.infer_literal.Statement.{statement}

@@ -4,7 +4,7 @@ use Prim.Native.Nat.{ℕ}
 use native.Mathlib.Omega.{arith}
 use mathlib.Core.Path.{_≡_, sym, subst}
 use Rattle.type_words.specs.Holds.{MaybeHolds}
-use Rattle.type_tests.specs.Literals.{literal-type}
+use Rattle.literal_fits.specs.Literals.{literal-type}
 use Rattle.infer_leaves.proofs.literal_type.Statement.{statement}
 use Rattle.infer_leaves.proofs.literal_type.Tie as tie
 

@@ -1,6 +1,5 @@
 -- `project_let::write_let` meets its contract. Assumes nothing.
 use borrow.Author.Needs.{needs}
-use Rattle.write_words.proofs.Written.{written-then}
 use Rattle.rules.specs.Syntax.{run}
 use Rattle.rules.specs.Infer.{type-of}
 use Rattle.project_let.proofs.Lets.{written-let}
@@ -14,6 +13,5 @@ write-let-spec =
     (λ c κs. search needs)
     (λ c κs. search needs)
     (λ c κs. search needs)
-    (λ c κs. search needs)
     (λ c. search needs)
-    (λ c. λ x i e n s o context v q w. written-let _ v (written-then _ _ (c .before .before .before .before .before .before .before .before .before .before .before .before .before .before .put .ensures) (c .before .before .before .before .before .before .before .before .before .before .put2 .ensures)) (c .before .before .before .before .before .before .put-type .ensures (run (type-of v)) w) (c .before .before .write-expr .ensures x i e n s o context v q w)))
+    (λ c. λ x i e n s o context v q w. written-let _ v (c .before .before .before .before .before .before .before .before .before .before .put-two .ensures) (c .before .before .before .before .before .before .put-type .ensures (run (type-of v)) w) (c .before .before .write-expr .ensures x i e n s o context v q w)))

@@ -29,17 +29,17 @@ returns-2 c = four-then (c .before .before .before .before .before .before .befo
 
 returns-3 : tie.Need-returns-3
 unfolding name-row
-returns-3 c = four-then (c .before .before .before .before .before .before .before .before .before .before .before .before .before .before .before .pre .0 .inside .names) (c .before .before .before .before .before .before .before .before .before .before .before .before .before .before .before .pre .1) (c .before .before .before .before .before .before .before .before .before .before .before .before .before .before .before .pre .0 .names) _ (c .before .before .before .before .before .before .before .before .before .before .before .before .before .name-row .ensures .start) (c .before .before .before .before .before .before .before .before .before .before .before .before .before .name-row .ensures .size) (c .before .before .before .before .before .before .before .before .before .before .before .before .before .name-row .ensures .definition) (c .before .before .before .before .before .before .before .before .before .before .before .before .before .name-row .ensures .alias) (rule-then _ (not-false _ (c .before .before .before .before .before .before .before .before .before .if1 .left)) (rule-then _ (not-false _ (c .before .before .before .if2 .left)) (last _ (alias-none _ _ _ _ _ _ _ (c .if3 .taken)))))
+returns-3 c = four-then (c .before .before .before .before .before .before .before .before .before .before .before .before .before .before .pre .0 .inside .names) (c .before .before .before .before .before .before .before .before .before .before .before .before .before .before .pre .1) (c .before .before .before .before .before .before .before .before .before .before .before .before .before .before .pre .0 .names) _ (c .before .before .before .before .before .before .before .before .before .before .before .before .name-row .ensures .start) (c .before .before .before .before .before .before .before .before .before .before .before .before .name-row .ensures .size) (c .before .before .before .before .before .before .before .before .before .before .before .before .name-row .ensures .definition) (c .before .before .before .before .before .before .before .before .before .before .before .before .name-row .ensures .alias) (rule-then _ (not-false _ (c .before .before .before .before .before .before .before .before .if1 .left)) (rule-then _ (not-false _ (c .before .before .if2 .left)) (last _ (alias-none _ _ _ _ _ _ _ (c .if3 .taken)))))
 
 cast-check-type : tie.Need-cast-check-type
 cast-check-type c = search needs
 
 check-type-requires : tie.Need-check-type-requires
-check-type-requires c κs = c .before .before .before .before .before .before .before .before .before .before .before .before .before .before .before .before .before .pre .0 .inside .pool
+check-type-requires c κs = c .before .before .before .before .before .before .before .before .before .before .before .before .before .before .before .before .pre .0 .inside .pool
 
 returns-4 : tie.Need-returns-4
 unfolding name-row
-returns-4 c = four-then (c .before .before .before .before .before .before .before .before .before .before .before .before .before .before .before .before .before .before .pre .0 .inside .names) (c .before .before .before .before .before .before .before .before .before .before .before .before .before .before .before .before .before .before .pre .1) (c .before .before .before .before .before .before .before .before .before .before .before .before .before .before .before .before .before .before .pre .0 .names) _ (c .before .before .before .before .before .before .before .before .before .before .before .before .before .before .before .before .name-row .ensures .start) (c .before .before .before .before .before .before .before .before .before .before .before .before .before .before .before .before .name-row .ensures .size) (c .before .before .before .before .before .before .before .before .before .before .before .before .before .before .before .before .name-row .ensures .definition) (c .before .before .before .before .before .before .before .before .before .before .before .before .before .before .before .before .name-row .ensures .alias) (rule-then _ (not-false _ (c .before .before .before .before .before .before .before .before .before .before .before .before .if1 .left)) (rule-then _ (not-false _ (c .before .before .before .before .before .before .if2 .left)) (last _ (alias-read _ _ _ _ _ _ _ (c .before .before .before .if3 .left) (c .check-type .ensures)))))
+returns-4 c = four-then (c .before .before .before .before .before .before .before .before .before .before .before .before .before .before .before .before .before .pre .0 .inside .names) (c .before .before .before .before .before .before .before .before .before .before .before .before .before .before .before .before .before .pre .1) (c .before .before .before .before .before .before .before .before .before .before .before .before .before .before .before .before .before .pre .0 .names) _ (c .before .before .before .before .before .before .before .before .before .before .before .before .before .before .before .name-row .ensures .start) (c .before .before .before .before .before .before .before .before .before .before .before .before .before .before .before .name-row .ensures .size) (c .before .before .before .before .before .before .before .before .before .before .before .before .before .before .before .name-row .ensures .definition) (c .before .before .before .before .before .before .before .before .before .before .before .before .before .before .before .name-row .ensures .alias) (rule-then _ (not-false _ (c .before .before .before .before .before .before .before .before .before .before .before .if1 .left)) (rule-then _ (not-false _ (c .before .before .before .before .before .if2 .left)) (last _ (alias-read _ _ _ _ _ _ _ (c .before .before .before .if3 .left) (c .check-type .ensures)))))
 
 pub check-name-row-spec : {M : Type 1} → statement M
 check-name-row-spec =

@@ -9,7 +9,7 @@ use Rattle.rules.specs.Syntax.{TraitFnDef}
 use Rattle.image_words.proofs.Sections.{length-section}
 use Rattle.impl_functions.specs.Functions.{All-asked-here}
 use Rattle.impl_functions.proofs.Walk.{started}
-use Rattle.impl_functions.proofs.NameTests.{Names, named, all-named}
+use Rattle.impl_functions.proofs.NameTables.{Names, named, all-named}
 use Rattle.impl_functions.proofs.names.function_names.Statement.{statement}
 use Rattle.impl_functions.proofs.names.function_names.Tie as tie
 

@@ -8,7 +8,7 @@ use lib.ListN.{length, length-set}
 use Rattle.rules.specs.Syntax.{ImplFnDef}
 use Rattle.impl_functions.specs.Functions.{Placed}
 use Rattle.impl_functions.proofs.PlaceTable.{passed}
-use Rattle.impl_functions.proofs.NameTests.{Own-names, own-named, all-own}
+use Rattle.impl_functions.proofs.NameTables.{Own-names, own-named, all-own}
 use Rattle.impl_functions.proofs.names.own_names.Statement.{statement}
 use Rattle.impl_functions.proofs.names.own_names.Tie as tie
 

@@ -6,7 +6,6 @@ use borrow.Author.Tests.{not-false}
 use lib.ListN.{length}
 use lib.Seq.{length-take-le}
 use Rattle.project_outcome.proofs.Coming.{comes-same, part-behind, part-done}
-use Rattle.project_outcome.proofs.Passing.{in-order}
 use Rattle.project_impl.proofs.WholeLaws.{tests-first}
 use Rattle.project_impl.proofs.WantedParts.{few, given, asked-at, all, against-names, start-small, types-small, stand, few-places, own-here}
 use Rattle.project_impl.proofs.found.project_tested.Statement.{statement}
@@ -51,57 +50,55 @@ function-names-requires c κs = c .before .before .before .before .before .befor
 own-inside : tie.Need-array-share-prefix-own
 own-inside c = omega (arith, c .before .before .before .few .ensures .1)
 
-own-length : tie.Need-slice-aggregate-no-repeat
+own-length : tie.Need-slice-aggregate-check-names
 own-length c = let e : length (c .before .before .own-names .result) ≡ 64 = search needs in sym (length-take-le _ _ (omega (arith, c .before .before .before .before .few .ensures .1)))
 
-no-stranger-requires : tie.Need-no-stranger-requires
-no-stranger-requires c κs = c .before .before .before .before .before .before .before .before .before .before .before .before .before .pre .0 .inside
+check-names-requires : tie.Need-check-names-requires
+check-names-requires c κs = c .before .before .before .before .before .before .before .before .before .before .before .before .pre .0 .inside
 
 add-view : tie.Need-add-view
-add-view c = omega (arith, start-small (c .before .before .before .before .before .before .before .before .before .before .before .before .before .before .before .pre .0 .inside) (c .before .before .before .before .before .before .before .before .before .before .before .before .before .before .before .pre .1 .asked))
+add-view c = omega (arith, start-small (c .before .before .before .before .before .before .before .before .before .before .before .before .before .pre .0 .inside) (c .before .before .before .before .before .before .before .before .before .before .before .before .before .pre .1 .asked))
 
 add-view-2 : tie.Need-add-view-2
-add-view-2 c = omega (arith, start-small (c .before .before .before .before .before .before .before .before .before .before .before .before .before .before .before .pre .0 .inside) (c .before .before .before .before .before .before .before .before .before .before .before .before .before .before .before .pre .1 .asked))
+add-view-2 c = omega (arith, start-small (c .before .before .before .before .before .before .before .before .before .before .before .before .before .pre .0 .inside) (c .before .before .before .before .before .before .before .before .before .before .before .before .before .pre .1 .asked))
 
 add-view-3 : tie.Need-add-view-3
-add-view-3 c = omega (arith, types-small (c .before .before .before .before .before .before .before .before .before .before .before .before .before .before .before .pre .0 .inside) (c .before .before .before .before .before .before .before .before .before .before .before .before .before .before .before .pre .1 .asked))
+add-view-3 c = omega (arith, types-small (c .before .before .before .before .before .before .before .before .before .before .before .before .before .pre .0 .inside) (c .before .before .before .before .before .before .before .before .before .before .before .before .before .pre .1 .asked))
 
 view-requires : tie.Need-view-requires
-view-requires c κs = (c .before .before .before .before .before .before .before .before .before .before .before .before .before .before .before .pre .0 .inside, given (c .before .before .before .before .before .before .before .before .before .before .before .before .before .before .before .pre .1) (c .before .before .before .before .before .before .before .before .before .before .before .section-word .ensures))
+view-requires c κs = (c .before .before .before .before .before .before .before .before .before .before .before .before .before .pre .0 .inside, given (c .before .before .before .before .before .before .before .before .before .before .before .before .before .pre .1) (c .before .before .before .before .before .before .before .before .before .section-word .ensures))
 
 mul-table : tie.Need-mul-table
-mul-table c = omega (arith, few (c .before .before .before .before .before .before .before .before .before .before .before .before .before .before .before .before .pre .1) (c .before .before .before .before .before .before .before .before .before .before .before .before .section-word .ensures))
+mul-table c = omega (arith, few (c .before .before .before .before .before .before .before .before .before .before .before .before .before .before .pre .1) (c .before .before .before .before .before .before .before .before .before .before .section-word .ensures))
 
 params-inside : tie.Need-array-share-prefix-table
-params-inside c = omega (arith, few (c .before .before .before .before .before .before .before .before .before .before .before .before .before .before .before .before .pre .1) (c .before .before .before .before .before .before .before .before .before .before .before .before .section-word .ensures))
+params-inside c = omega (arith, few (c .before .before .before .before .before .before .before .before .before .before .before .before .before .before .pre .1) (c .before .before .before .before .before .before .before .before .before .before .section-word .ensures))
 
 params-length : tie.Need-slice-aggregate-params
-params-length c = let e : length (c .before .view .result) ≡ 528 = search needs in sym (length-take-le _ _ (omega (arith, few (c .before .before .before .before .before .before .before .before .before .before .before .before .before .before .before .before .before .pre .1) (c .before .before .before .before .before .before .before .before .before .before .before .before .before .section-word .ensures))))
+params-length c = let e : length (c .before .view .result) ≡ 528 = search needs in sym (length-take-le _ _ (omega (arith, few (c .before .before .before .before .before .before .before .before .before .before .before .before .before .before .before .pre .1) (c .before .before .before .before .before .before .before .before .before .before .before .section-word .ensures))))
 
 project-list-requires : tie.Need-project-list-requires
-project-list-requires c κs = (c .before .before .before .before .before .before .before .before .before .before .before .before .before .before .before .before .before .before .before .pre .0, all (c .before .before .before .before .before .before .before .before .before .before .before .before .before .before .before .before .before .before .before .pre .1) (c .before .before .before .before .before .before .before .before .before .before .before .before .before .before .before .section-word .ensures) (c .before .before .before .view .ensures (given (c .before .before .before .before .before .before .before .before .before .before .before .before .before .before .before .before .before .before .before .pre .1) (c .before .before .before .before .before .before .before .before .before .before .before .before .before .before .before .section-word .ensures))), omega arith)
+project-list-requires c κs = (c .before .before .before .before .before .before .before .before .before .before .before .before .before .before .before .before .before .pre .0, all (c .before .before .before .before .before .before .before .before .before .before .before .before .before .before .before .before .before .pre .1) (c .before .before .before .before .before .before .before .before .before .before .before .before .before .section-word .ensures) (c .before .before .before .view .ensures (given (c .before .before .before .before .before .before .before .before .before .before .before .before .before .before .before .before .before .pre .1) (c .before .before .before .before .before .before .before .before .before .before .before .before .before .section-word .ensures))), omega arith)
 
 returns : tie.Need-returns
 returns c = λ w message b.
-    let s = stand b (c .before .before .before .before .before .before .before .before .before .before .before .before .before .before .before .before .before .before .before .before .functions-start .ensures (w .asked .impl .type-args) _ (w .asked .types-at)) (c .before .before .before .before .before .before .before .before .before .before .before .before .before .before .before .before .before .before .before .function-places .ensures) (c .before .before .before .before .before .before .before .before .before .before .before .before .before .before .before .before .before .before .section-word2 .ensures) (c .before .before .before .before .before .before .before .before .before .before .before .before .before .before .before .before .before .few .ensures .0) in
-    let strangers = against-names w (c .before .before .before .before .before .before .before .before .before .before .before .before .before .before .before .before .before .before .before .before .before .section-word .ensures) (c .before .before .before .before .before .before .before .before .before .before .before .no-stranger .ensures (w .asked .trait .functions) _ (asked-at w (c .before .before .before .before .before .before .before .before .before .before .before .before .before .before .before .before .before .before .before .before .before .section-word .ensures)) (w .asked .impl .functions) (s .functions-at)) in
-    let e : length (c .before .before .before .before .before .before .before .before .before .before .before .before .before .before .before .before .before .before .before .function-places .result) ≡ 64 = search (needs, c .before .before .before .before .before .before .before .before .before .before .before .before .before .before .before .before .before .before .before .function-places .ok) in
-    let own = own-here (c .before .before .before .before .before .before .before .before .before .before .before .before .before .before .before .before .before .before .before .function-places .result) _ e (c .before .before .before .before .before .before .before .before .before .before .before .before .before .before .before .before .before .few .ensures .1) (c .before .before .before .before .before .before .before .before .before .before .before .before .before .before .before .own-names .ensures (w .asked .impl .functions) (s .functions-at)) in
-    let tests = in-order (c .before .before .before .before .before .before .before .before .before .before .first-refusal .ensures) (c .before .before .before .before .before .before .before .before .before .before .before .before .no-repeat .ensures (w .asked .impl .functions) own) strangers in
-    let order = c .before .before .before .before .before .before .before .before .before .before .before .before .before .before .function-names .ensures (w .asked .trait .functions) _ (asked-at w (c .before .before .before .before .before .before .before .before .before .before .before .before .before .before .before .before .before .before .before .before .before .section-word .ensures)) in
-    let listed = c .before .before .before .before .before .project-list .ensures (all w (c .before .before .before .before .before .before .before .before .before .before .before .before .before .before .before .before .before .before .before .before .before .section-word .ensures) (c .before .before .before .before .before .before .before .before .before .view .ensures (given w (c .before .before .before .before .before .before .before .before .before .before .before .before .before .before .before .before .before .before .before .before .before .section-word .ensures)))) order (w .asked .impl) message s in
-    comes-same (tests-first (w .asked .impl) message (w .signatures)) (part-behind (c .before .before .first-refusal2 .ensures) tests listed)
+    let s = stand b (c .before .before .before .before .before .before .before .before .before .before .before .before .before .before .before .before .before .before .functions-start .ensures (w .asked .impl .type-args) _ (w .asked .types-at)) (c .before .before .before .before .before .before .before .before .before .before .before .before .before .before .before .before .before .function-places .ensures) (c .before .before .before .before .before .before .before .before .before .before .before .before .before .before .before .before .section-word2 .ensures) (c .before .before .before .before .before .before .before .before .before .before .before .before .before .before .before .few .ensures .0) in
+    let e : length (c .before .before .before .before .before .before .before .before .before .before .before .before .before .before .before .before .before .function-places .result) ≡ 64 = search (needs, c .before .before .before .before .before .before .before .before .before .before .before .before .before .before .before .before .before .function-places .ok) in
+    let own = own-here (c .before .before .before .before .before .before .before .before .before .before .before .before .before .before .before .before .before .function-places .result) _ e (c .before .before .before .before .before .before .before .before .before .before .before .before .before .before .before .few .ensures .1) (c .before .before .before .before .before .before .before .before .before .before .before .before .before .own-names .ensures (w .asked .impl .functions) (s .functions-at)) in
+    let tests = against-names w (c .before .before .before .before .before .before .before .before .before .before .before .before .before .before .before .before .before .before .before .section-word .ensures) (c .before .before .before .before .before .before .before .before .before .before .check-names .ensures (w .asked .trait .functions) _ (asked-at w (c .before .before .before .before .before .before .before .before .before .before .before .before .before .before .before .before .before .before .before .section-word .ensures)) (w .asked .impl .functions) (s .functions-at) own) in
+    let order = c .before .before .before .before .before .before .before .before .before .before .before .before .function-names .ensures (w .asked .trait .functions) _ (asked-at w (c .before .before .before .before .before .before .before .before .before .before .before .before .before .before .before .before .before .before .before .section-word .ensures)) in
+    let listed = c .before .before .before .before .before .project-list .ensures (all w (c .before .before .before .before .before .before .before .before .before .before .before .before .before .before .before .before .before .before .before .section-word .ensures) (c .before .before .before .before .before .before .before .before .before .view .ensures (given w (c .before .before .before .before .before .before .before .before .before .before .before .before .before .before .before .before .before .before .before .section-word .ensures)))) order (w .asked .impl) message s in
+    comes-same (tests-first (w .asked .impl) message (w .signatures)) (part-behind (c .before .before .first-refusal .ensures) tests listed)
 
 returns-2 : tie.Need-returns-2
 returns-2 c = λ w message b.
-    let s = stand b (c .before .before .before .before .before .before .before .before .before .before .before .before .before .before .before .before .before .before .before .before .before .functions-start .ensures (w .asked .impl .type-args) _ (w .asked .types-at)) (c .before .before .before .before .before .before .before .before .before .before .before .before .before .before .before .before .before .before .before .before .function-places .ensures) (c .before .before .before .before .before .before .before .before .before .before .before .before .before .before .before .before .before .before .before .section-word2 .ensures) (c .before .before .before .before .before .before .before .before .before .before .before .before .before .before .before .before .before .before .few .ensures .0) in
-    let strangers = against-names w (c .before .before .before .before .before .before .before .before .before .before .before .before .before .before .before .before .before .before .before .before .before .before .section-word .ensures) (c .before .before .before .before .before .before .before .before .before .before .before .before .no-stranger .ensures (w .asked .trait .functions) _ (asked-at w (c .before .before .before .before .before .before .before .before .before .before .before .before .before .before .before .before .before .before .before .before .before .before .section-word .ensures)) (w .asked .impl .functions) (s .functions-at)) in
-    let e : length (c .before .before .before .before .before .before .before .before .before .before .before .before .before .before .before .before .before .before .before .before .function-places .result) ≡ 64 = search (needs, c .before .before .before .before .before .before .before .before .before .before .before .before .before .before .before .before .before .before .before .before .function-places .ok) in
-    let own = own-here (c .before .before .before .before .before .before .before .before .before .before .before .before .before .before .before .before .before .before .before .before .function-places .result) _ e (c .before .before .before .before .before .before .before .before .before .before .before .before .before .before .before .before .before .before .few .ensures .1) (c .before .before .before .before .before .before .before .before .before .before .before .before .before .before .before .before .own-names .ensures (w .asked .impl .functions) (s .functions-at)) in
-    let tests = in-order (c .before .before .before .before .before .before .before .before .before .before .before .first-refusal .ensures) (c .before .before .before .before .before .before .before .before .before .before .before .before .before .no-repeat .ensures (w .asked .impl .functions) own) strangers in
-    let order = c .before .before .before .before .before .before .before .before .before .before .before .before .before .before .before .function-names .ensures (w .asked .trait .functions) _ (asked-at w (c .before .before .before .before .before .before .before .before .before .before .before .before .before .before .before .before .before .before .before .before .before .before .section-word .ensures)) in
-    let listed = c .before .before .before .before .before .before .project-list .ensures (all w (c .before .before .before .before .before .before .before .before .before .before .before .before .before .before .before .before .before .before .before .before .before .before .section-word .ensures) (c .before .before .before .before .before .before .before .before .before .before .view .ensures (given w (c .before .before .before .before .before .before .before .before .before .before .before .before .before .before .before .before .before .before .before .before .before .before .section-word .ensures)))) order (w .asked .impl) message s in
-    comes-same (tests-first (w .asked .impl) message (w .signatures)) (part-done (c .before .before .before .first-refusal2 .ensures) tests listed (not-false _ (c .before .if1 .left)) (c .accepted .ensures .0) (c .accepted .ensures .1))
+    let s = stand b (c .before .before .before .before .before .before .before .before .before .before .before .before .before .before .before .before .before .before .before .functions-start .ensures (w .asked .impl .type-args) _ (w .asked .types-at)) (c .before .before .before .before .before .before .before .before .before .before .before .before .before .before .before .before .before .before .function-places .ensures) (c .before .before .before .before .before .before .before .before .before .before .before .before .before .before .before .before .before .section-word2 .ensures) (c .before .before .before .before .before .before .before .before .before .before .before .before .before .before .before .before .few .ensures .0) in
+    let e : length (c .before .before .before .before .before .before .before .before .before .before .before .before .before .before .before .before .before .before .function-places .result) ≡ 64 = search (needs, c .before .before .before .before .before .before .before .before .before .before .before .before .before .before .before .before .before .before .function-places .ok) in
+    let own = own-here (c .before .before .before .before .before .before .before .before .before .before .before .before .before .before .before .before .before .before .function-places .result) _ e (c .before .before .before .before .before .before .before .before .before .before .before .before .before .before .before .before .few .ensures .1) (c .before .before .before .before .before .before .before .before .before .before .before .before .before .before .own-names .ensures (w .asked .impl .functions) (s .functions-at)) in
+    let tests = against-names w (c .before .before .before .before .before .before .before .before .before .before .before .before .before .before .before .before .before .before .before .before .section-word .ensures) (c .before .before .before .before .before .before .before .before .before .before .before .check-names .ensures (w .asked .trait .functions) _ (asked-at w (c .before .before .before .before .before .before .before .before .before .before .before .before .before .before .before .before .before .before .before .before .section-word .ensures)) (w .asked .impl .functions) (s .functions-at) own) in
+    let order = c .before .before .before .before .before .before .before .before .before .before .before .before .before .function-names .ensures (w .asked .trait .functions) _ (asked-at w (c .before .before .before .before .before .before .before .before .before .before .before .before .before .before .before .before .before .before .before .before .section-word .ensures)) in
+    let listed = c .before .before .before .before .before .before .project-list .ensures (all w (c .before .before .before .before .before .before .before .before .before .before .before .before .before .before .before .before .before .before .before .before .section-word .ensures) (c .before .before .before .before .before .before .before .before .before .before .view .ensures (given w (c .before .before .before .before .before .before .before .before .before .before .before .before .before .before .before .before .before .before .before .before .section-word .ensures)))) order (w .asked .impl) message s in
+    comes-same (tests-first (w .asked .impl) message (w .signatures)) (part-done (c .before .before .before .first-refusal .ensures) tests listed (not-false _ (c .before .if1 .left)) (c .accepted .ensures .0) (c .accepted .ensures .1))
 
 pub project-tested-spec : {M : Type 1} → statement M
 project-tested-spec =
@@ -123,9 +120,7 @@ project-tested-spec =
     function-names-requires
     own-inside
     own-length
-    (λ c κs. search needs)
-    no-stranger-requires
-    (λ c κs. search needs)
+    check-names-requires
     add-view
     add-view-2
     add-view-3

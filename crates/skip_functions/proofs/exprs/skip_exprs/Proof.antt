@@ -6,7 +6,7 @@ use native.Mathlib.Omega.{arith}
 use Rattle.rules.specs.Kinds.{expr-kind}
 use Rattle.image_words.specs.Verdict.{section-words}
 use Rattle.image_words.proofs.Sections.{length-section}
-use Rattle.pool_bodies.specs.ExprAt.{Expr-at}
+use Rattle.pool_expressions.specs.ExprAt.{Expr-at}
 use Rattle.skip_types.specs.Pending.{Pending}
 use Rattle.skip_types.proofs.Pending.{ended, of-first, turned, pending-fits}
 use Rattle.skip_functions.proofs.ExprNodes.{expr-parts, expr-inside}

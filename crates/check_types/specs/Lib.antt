@@ -1,0 +1,4 @@
+pub mod Details
+pub mod Params
+pub mod Returns
+pub mod Contracts

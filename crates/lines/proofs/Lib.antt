@@ -1,0 +1,4 @@
+pub mod Tells
+pub mod Decimal
+pub mod Lines
+pub mod Lengths

@@ -1,0 +1,4 @@
+pub mod Widths
+pub mod ByRange
+pub mod Given
+pub mod Inferred

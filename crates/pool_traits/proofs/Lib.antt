@@ -1,0 +1,3 @@
+pub mod TraitAt
+pub mod Different
+pub mod TraitLoop

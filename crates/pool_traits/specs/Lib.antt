@@ -1,0 +1,2 @@
+pub mod TraitAt
+pub mod Different

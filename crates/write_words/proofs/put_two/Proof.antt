@@ -1,0 +1,24 @@
+-- `write_words::put_two` meets its contract: the writer has the bytes below the limit for both words. Assumes nothing.
+use borrow.Author.Needs.{needs}
+use mathlib.Core.Path.{sym}
+use denote.Ref.{now}
+use native.Mathlib.Omega.{arith}
+use lib.Seq.{length-take-le}
+use Rattle.write_words.proofs.Prefix.{put-two-prefix}
+use Rattle.write_words.proofs.Written.{written-two, written-far}
+use Rattle.write_words.proofs.put_two.Statement.{statement}
+use Rattle.write_words.proofs.put_two.Tie as tie
+
+pub put-two-spec : {M : Type 1} → statement M
+put-two-spec =
+    tie.close
+    (tie.spec
+    (λ c. written-far _ _ _ _ (omega (arith, c .if1 .taken)))
+    (λ c. search needs)
+    (λ c. sym (length-take-le _ _ (omega (arith, c .before .before .before .pre))))
+    (λ c κs. search needs)
+    (λ c. search needs)
+    (λ c.
+    let a = c .before .before .before .before .before .before .args in
+    let e = c .before .before .write-two .ensures in
+    written-two _ _ _ _ _ _ _ (e .0, put-two-prefix (a .limit) (a .to) (a .v) (a .w) (now (a .out)) (c .before .before .before .before .before .before .pre) (e .1))))
