@@ -5,7 +5,7 @@
  * - A slice is passed as two arguments, an address and a count of elements. The address is never NULL, not even beside
  *   a count of 0, and that many elements can be read there, and written where it is not const.
  * - The slices that are written (output, detail, answer) overlap neither one another nor the image.
- * - The caller has 8 MB of stack left: substitution nests up to 1,024 calls.
+ * - The caller has FRUSCALITU_STACK_BYTES of stack left: nothing checks it, and a call that runs past it kills the process.
  * - The archive is for x86-64 Linux, and asks of C's library memcpy and memset.
  *
  * Nothing is kept after a call, nothing is allocated, there is no state: threads may call at once, each with its own
@@ -24,6 +24,10 @@ extern "C" {
 
 /* The absent name, and the result where the answer's block is short. */
 #define FRUSCALITU_NONE UINT32_C(4294967295)
+
+/* The stack in bytes that a call needs of its caller, on x86-64 Linux: `tools/stack` measures what the stored cases need,
+ * and `tools/stack test`, a part of the gate, asks all of them on a stack of exactly this size. */
+#define FRUSCALITU_STACK_BYTES 786432
 
 /* The least detail that is not answered with 1. */
 #define FRUSCALITU_DETAIL_BYTES 576

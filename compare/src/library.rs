@@ -1,5 +1,5 @@
 //! The proved library, asked in-process where the feature `library` links it. All unsafe code of the comparison is here,
-//! but for requests to callgrind.
+//! but for the stack that answers are asked on and for requests to callgrind.
 
 use crate::buffers::Side;
 use crate::second::Call;
@@ -38,6 +38,7 @@ pub fn addresses(call: Call) -> [usize; 3] {
 #[cfg(feature = "library")]
 mod linked {
     use crate::second::{Answer, Call};
+    use crate::stack::on_documented_stack;
 
     // What the library calls; only their addresses are taken.
     extern "C" {
@@ -100,6 +101,20 @@ mod linked {
         }
     }
 
+    /// A call that has the documented stack and no more.
+    fn called(
+        which: Call,
+        image: &[u8],
+        row: u32,
+        output: &mut [u8],
+        detail: &mut [u8],
+        block: &mut [u32],
+    ) -> Result<u32, String> {
+        let mut result = 0;
+        on_documented_stack(&mut || result = call(which, image, row, output, detail, block))?;
+        Ok(result)
+    }
+
     const FILL: u32 = 0xa5a5_a5a5;
     const CANARY: u32 = 0xcccc_cccc;
     const MARGIN: usize = 8;
@@ -109,18 +124,18 @@ mod linked {
     const SHORT_BLOCK: u32 = u32::MAX;
 
     /// Asks with a short block, which must touch nothing, and then with one of five to eight words: the words behind the
-    /// fifth must stay, and canaries stand around each.
+    /// fifth must stay, and canaries stand around each. The calls have the documented stack.
     pub fn answer(which: Call, image: &[u8], row: u32, output: &mut [u8], detail: &mut [u8]) -> Result<Answer, String> {
         let some = image.len() + output.len() + detail.len();
         let before = (output.to_vec(), detail.to_vec());
-        let said = in_block(some % WORDS, |block| call(which, image, row, output, detail, block))?;
+        let said = in_block(some % WORDS, |block| called(which, image, row, output, detail, block))?;
         if said.result != SHORT_BLOCK || said.words.iter().any(|word| *word != FILL) {
             return Err("the library says or writes something with a short block".into());
         }
         if (&before.0[..], &before.1[..]) != (&*output, &*detail) {
             return Err("the library touches a buffer with a short block".into());
         }
-        let said = in_block(WORDS + some % 4, |block| call(which, image, row, output, detail, block))?;
+        let said = in_block(WORDS + some % 4, |block| called(which, image, row, output, detail, block))?;
         let (five, rest) = said.words.split_at(WORDS);
         if rest.iter().any(|word| *word != FILL) {
             return Err("the library writes past the block's fifth word".into());
@@ -137,10 +152,10 @@ mod linked {
     }
 
     /// Lends a block of so many words, between canaries.
-    fn in_block(words: usize, ask: impl FnOnce(&mut [u32]) -> u32) -> Result<Said, String> {
+    fn in_block(words: usize, ask: impl FnOnce(&mut [u32]) -> Result<u32, String>) -> Result<Said, String> {
         let mut block = [CANARY; MARGIN + WORDS + 3 + MARGIN];
         block[MARGIN..MARGIN + words].fill(FILL);
-        let result = ask(&mut block[MARGIN..MARGIN + words]);
+        let result = ask(&mut block[MARGIN..MARGIN + words])?;
         let around = block[..MARGIN].iter().chain(&block[MARGIN + words..]);
         match around.into_iter().all(|word| *word == CANARY) {
             true => Ok(Said { result, words: block[MARGIN..MARGIN + words].to_vec() }),

@@ -15,6 +15,8 @@ mod sample;
 mod second;
 mod sentence;
 mod speed;
+#[cfg(any(feature = "library", test))]
+mod stack;
 mod table;
 mod text;
 mod worst;
@@ -123,7 +125,7 @@ fn command(words: &[String]) -> Result<(), Failure> {
 
 fn run(options: &Options) -> Result<(), Failure> {
     let (seed, count) = (options.number("seed", 1)?, options.number("cases", 100_000)?);
-    judged(Judge::default(), seed, count, gen::edge_cases().chain(gen::Cases::new(seed)))
+    judged(Judge::default(), seed, count, gen::edge_cases().chain(gen::Cases::with_deep(seed)))
 }
 
 /// Judges so many cases; a table.

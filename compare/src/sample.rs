@@ -30,6 +30,49 @@ const ASKED_TWICE: [&str; 13] = [
     "lone-trait-",
 ];
 
+const ONCE: &[Call] = &[Call::ProjectImpl];
+const TWICE: &[Call] = &[Call::ProjectImpl, Call::ExpectedSignatures];
+
+/// Edges that need the most stack, stored behind all else: those that were reported, and the deepest of each kind in each code
+/// that was measured.
+const DEEPEST: [(&str, &[Call]); 35] = [
+    ("stack-self", ONCE),
+    ("stack-one", ONCE),
+    ("stack-fixed", ONCE),
+    ("stack-two", ONCE),
+    ("stack-right", TWICE),
+    ("stack-mixed", TWICE),
+    ("stack-args", TWICE),
+    ("stack-argone", ONCE),
+    ("stack-argtwo", ONCE),
+    ("stack-un0", ONCE),
+    ("stack-un1", ONCE),
+    ("stack-bin0", ONCE),
+    ("stack-bin1", ONCE),
+    ("stack-binu", ONCE),
+    ("stack-cycle-second", TWICE),
+    ("stack-cycle-first", ONCE),
+    ("stack-cycle-optional", ONCE),
+    ("stack-cycle-second-same", ONCE),
+    ("stack-cycle-first-first", ONCE),
+    ("stack-cycle-second-optional-second", ONCE),
+    ("stack-cycle-first-first-first", ONCE),
+    ("stack-cycle-filled-second-fixed", ONCE),
+    ("stack-ends-filled-second-optional-1023", ONCE),
+    ("stack-ends-filled-second-optional-1024", TWICE),
+    ("stack-ends-filled-second-optional-1025", ONCE),
+    ("stack-ends-filled-optional-1023", ONCE),
+    ("stack-ends-filled-optional-1024", ONCE),
+    ("stack-ends-filled-optional-1025", ONCE),
+    ("stack-let-neg-locals", ONCE),
+    ("stack-let-neg-self", ONCE),
+    ("stack-return-neg-locals", ONCE),
+    ("stack-return-neg-self", ONCE),
+    ("stack-assign-neg-locals", ONCE),
+    ("stack-assign-neg-locals-unknown", ONCE),
+    ("stack-assign-neg-right-self", ONCE),
+];
+
 /// Cases with images of at most so many bytes, as many of each number of each call as can be, then some large ones.
 pub fn balanced(seed: u64, count: usize, most: usize, large: usize) -> Result<Sample, String> {
     // 01's numbers: 25 of one call, and 9 of the other.
@@ -63,7 +106,7 @@ pub fn balanced(seed: u64, count: usize, most: usize, large: usize) -> Result<Sa
     Ok(sample)
 }
 
-/// The vectors: every edge, and a few random cases of each number.
+/// The vectors: every edge, a few random cases of each number, and the deepest edges.
 pub fn vectors(seed: u64) -> Result<Sample, String> {
     let mut judge = Judge::default();
     let mut sample = vec![];
@@ -72,17 +115,14 @@ pub fn vectors(seed: u64) -> Result<Sample, String> {
         sample.push((label, case, whole));
         Ok(())
     };
-    for (place, edge) in gen::edges().into_iter().filter(stored).enumerate() {
-        let image: Rc<[u8]> = edge.image.into();
+    let (deep, edges): (Vec<Edge>, Vec<Edge>) =
+        gen::edges().into_iter().partition(|edge| edge.label.starts_with("stack-"));
+    for (place, edge) in edges.into_iter().filter(stored).enumerate() {
         let whole_case = edge.label == "whole-case";
-        let twice = whole_case || ASKED_TWICE.iter().any(|start| edge.label.starts_with(start)) && image.len() < 2_000;
-        let calls = [Some(Call::ProjectImpl), twice.then_some(Call::ExpectedSignatures)];
-        for call in calls.into_iter().flatten() {
-            let base = Case { call, image: image.clone(), row: edge.row, output: 0, detail: DETAIL_BYTES };
-            let need = gen::needed(&base).unwrap_or(place % 9);
-            // Replays lend no more than this.
-            let output = (need + usize::from(place % 7 == 0)).min(65_536);
-            add(edge.label.clone(), Case { output, detail: DETAIL_BYTES + place % 3, ..base.clone() })?;
+        let starts = |start: &&str| edge.label.starts_with(*start);
+        let twice = whole_case || ASKED_TWICE.iter().any(starts) && edge.image.len() < 2_000;
+        for (base, need) in asked(&edge, place, if twice { TWICE } else { ONCE }) {
+            add(edge.label.clone(), lent(place, &base, need))?;
             if AT_EVERY_LENGTH.contains(&edge.label.as_str()) {
                 let outputs = [0, need.saturating_sub(4), need.saturating_sub(1), need, need + 1, need + 3, 65_536];
                 for output in outputs {
@@ -97,7 +137,27 @@ pub fn vectors(seed: u64) -> Result<Sample, String> {
     for (label, case, _) in balanced(seed, 68, 1_200, 0)? {
         add(format!("random-{label}"), case)?;
     }
+    for (place, (label, calls)) in DEEPEST.into_iter().enumerate() {
+        let edge = deep.iter().find(|edge| edge.label == label).ok_or(format!("there is no edge {label}"))?;
+        for (base, need) in asked(edge, place, calls) {
+            add(label.into(), lent(place, &base, need))?;
+        }
+    }
     Ok(sample)
+}
+
+/// An edge for some calls, each with the output that it needs.
+fn asked(edge: &Edge, place: usize, calls: &[Call]) -> Vec<(Case, usize)> {
+    let image: Rc<[u8]> = edge.image.as_slice().into();
+    let case = |call: &Call| Case { call: *call, image: image.clone(), row: edge.row, output: 0, detail: DETAIL_BYTES };
+    calls.iter().map(case).map(|case| (case.clone(), gen::needed(&case).unwrap_or(place % 9))).collect()
+}
+
+/// With lengths that vary from place to place.
+fn lent(place: usize, base: &Case, need: usize) -> Case {
+    // Replays lend no more than this.
+    let output = (need + usize::from(place % 7 == 0)).min(65_536);
+    Case { output, detail: DETAIL_BYTES + place % 3, ..base.clone() }
 }
 
 /// Not every change of the whole case, width and code is stored.

@@ -143,7 +143,7 @@ pub enum PortableFunctionError {
         /// Its five words.
         answer: [u32; 5],
     },
-    /// The system has no thread for the call.
+    /// The call needs a thread of its own for its stack, and the system has none.
     NoThread,
 }
 

@@ -4,6 +4,9 @@
 //!
 //! Names are rows of the image's names, types are runs of words: both mean what document 01 says.
 //!
+//! The library needs 786,432 bytes of stack. On Linux a thread that has so much left makes the call itself; from any
+//! other, and on other systems, the call gets a thread of its own.
+//!
 //! ```
 //! use fruscalitu::{expected_signatures, PortableFunctionError, TypeId};
 //!
@@ -16,6 +19,7 @@ mod decode;
 mod error;
 #[allow(unsafe_code)]
 mod linked;
+mod stack;
 #[cfg(test)]
 mod tests;
 mod words;

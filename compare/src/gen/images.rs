@@ -3,9 +3,12 @@
 use super::alike::{alike, End};
 use super::bounds::BOUNDS;
 use super::damage::damage;
+use super::deep;
 use super::edges::edges;
+use super::large;
 use super::model::Model;
-use super::rich::rich;
+use super::nested;
+use super::rich::{implement, rich, Rich};
 use super::rng::Rng;
 
 #[derive(Clone, Copy, PartialEq, Eq, PartialOrd, Ord)]
@@ -17,6 +20,8 @@ pub enum Source {
     Rich,
     /// Rich, with something at its bound or one past it.
     Bound,
+    /// Rich or small, with something that nests as deep as it can.
+    Deep,
     Damaged,
 }
 
@@ -33,7 +38,36 @@ pub struct Made {
 const AIMS: [u32; 28] =
     [0, 0, 0, 4, 5, 6, 6, 7, 7, 8, 8, 9, 10, 11, 12, 13, 14, 15, 16, 17, 18, 19, 20, 20, 21, 21, 22, 23];
 
-pub fn make(rng: &mut Rng) -> Made {
+/// So many images of a hundred nest deep.
+const DEEP: usize = 4;
+
+/// Makes images from a seed. Those that nest deep have a stream of numbers of their own: the others are the same without them.
+pub struct Maker {
+    rng: Rng,
+    deep: Option<Rng>,
+}
+
+impl Maker {
+    pub fn new(seed: u64) -> Self {
+        Maker { rng: Rng::new(seed), deep: None }
+    }
+
+    pub fn with_deep(seed: u64) -> Self {
+        Maker { rng: Rng::new(seed), deep: Some(Rng::new(!seed)) }
+    }
+
+    /// An image, and the numbers that it was made of.
+    pub fn make(&mut self) -> (Made, &mut Rng) {
+        if let Some(rng) = &mut self.deep {
+            if rng.chance(DEEP) {
+                return (make_deep(rng), rng);
+            }
+        }
+        (make(&mut self.rng), &mut self.rng)
+    }
+}
+
+fn make(rng: &mut Rng) -> Made {
     let kind = rng.below(100);
     let (source, aim) = match kind {
         0..8 => (Source::Rich, None),
@@ -58,6 +92,26 @@ pub fn make(rng: &mut Rng) -> Made {
     Made { source, image, row: rich.row, rows: rich.model.defs.len() as u32 }
 }
 
+/// A type expression or a value that nests deep; now and then damaged.
+fn make_deep(rng: &mut Rng) -> Made {
+    let Rich { model, row } = if rng.chance(30) {
+        nested::any(rng)
+    } else {
+        let mut rich = rich(rng, Some(0), 0);
+        let expression = deep::any(rng, &mut rich.model);
+        large::place(rng, &mut rich.model, rich.row, expression);
+        implement(rng, &mut rich.model, rich.row, Some(0));
+        rich
+    };
+    let mut image = if rng.chance(70) { model.loose_image(rng) } else { model.plain_image() };
+    let damaged = rng.chance(12);
+    if damaged {
+        damage(rng, &mut image);
+    }
+    let source = if damaged { Source::Damaged } else { Source::Deep };
+    Made { source, image, row, rows: model.defs.len() as u32 }
+}
+
 /// Texts that are not ASCII: 01 takes any bytes.
 fn other_texts(rng: &mut Rng, model: &mut Model) {
     let name = rng.below(model.names.len());
@@ -71,12 +125,12 @@ fn other_texts(rng: &mut Rng, model: &mut Model) {
 pub fn images(seed: u64) -> impl Iterator<Item = (Source, Vec<u8>)> {
     let edges: Vec<Vec<u8>> = edges().into_iter().map(|edge| edge.image).collect();
     let alikes = [End::OneByte, End::NoSum].into_iter().flat_map(|end| [false, true].map(|twice| alike(end, twice)));
-    let (mut rng, near) = (Rng::new(seed), edges.clone());
+    let (mut maker, near) = (Maker::with_deep(seed), edges.clone());
     let seeded = std::iter::repeat_with(move || {
-        let made = make(&mut rng);
+        let (made, rng) = maker.make();
         let (mut copy, mut edge) = (made.image.clone(), rng.pick(&near).clone());
-        damage(&mut rng, &mut copy);
-        damage(&mut rng, &mut edge);
+        damage(rng, &mut copy);
+        damage(rng, &mut edge);
         [(made.source, made.image), (Source::Damaged, copy), (Source::Damaged, edge)]
     });
     let edges = edges.into_iter().map(|image| (Source::Edge, image));

@@ -5,10 +5,12 @@ mod body;
 mod bounds;
 mod costly;
 mod damage;
+mod deep;
 mod edges;
 mod images;
 mod large;
 mod model;
+mod nested;
 mod rich;
 mod rng;
 mod tiny;
@@ -24,23 +26,29 @@ pub use costly::{costly, KINDS as COSTLY, ROW as COSTLY_ROW};
 #[cfg(test)]
 pub use edges::whole_case;
 pub use edges::{edges, Edge};
+use images::Maker;
 pub use images::{images, Source};
 use rng::Rng;
 
 /// An endless supply of cases from one seed.
 pub struct Cases {
-    rng: Rng,
+    maker: Maker,
     waiting: VecDeque<Case>,
 }
 
 impl Cases {
     pub fn new(seed: u64) -> Self {
-        Cases { rng: Rng::new(seed), waiting: VecDeque::new() }
+        Cases { maker: Maker::new(seed), waiting: VecDeque::new() }
+    }
+
+    /// The same cases, with some between them that nest deep.
+    pub fn with_deep(seed: u64) -> Self {
+        Cases { maker: Maker::with_deep(seed), waiting: VecDeque::new() }
     }
 
     fn refill(&mut self) {
-        let made = images::make(&mut self.rng);
-        ask(&mut self.rng, made.image.into(), made.row, made.rows, &mut self.waiting);
+        let (made, rng) = self.maker.make();
+        ask(rng, made.image.into(), made.row, made.rows, &mut self.waiting);
     }
 }
 
@@ -96,8 +104,8 @@ pub fn edge_cases() -> impl Iterator<Item = Case> {
 
 /// Images as `edges` and `Cases` have them, each asked for some calls with lengths around every boundary.
 pub fn boundary_cases(seed: u64, calls: &[Call]) -> impl Iterator<Item = Case> + '_ {
-    let mut rng = Rng::new(seed);
-    let seeded = std::iter::repeat_with(move || images::make(&mut rng)).map(|made| (made.image, made.row));
+    let mut maker = Maker::with_deep(seed);
+    let seeded = std::iter::repeat_with(move || maker.make().0).map(|made| (made.image, made.row));
     let images = edges().into_iter().map(|edge| (edge.image, edge.row)).chain(seeded);
     images.flat_map(move |(image, row)| {
         let image: Rc<[u8]> = image.into();

@@ -1,6 +1,5 @@
 -- What typing answers of whatever expression stands at a place.
-use Prim.Native.Nat.{ℕ, _-_}
-use mathlib.Core.Path.{_≡_}
+use Prim.Native.Nat.{ℕ}
 use mathlib.Core.List.{List}
 use mathlib.Core.Option.{Option}
 use Rattle.rules.specs.Syntax.{ResolvedType, Expr}
@@ -8,9 +7,8 @@ use Rattle.rules.specs.Infer.{FunctionContext, infer-expr}
 use Rattle.type_words.specs.declared.MaybeType.{MaybeType}
 use Rattle.type_words.specs.Holds.{MaybeHolds}
 use Rattle.image_layout.specs.declared.Layout.{Layout}
-use Rattle.image_layout.specs.Open.{pool-words}
 use Rattle.infer_context.specs.declared.Context.{Context}
-use Rattle.infer_context.specs.Stood.{Stood, AtExpr}
+use Rattle.infer_context.specs.Stood.{AtExpr}
 use Rattle.infer_context.specs.InContext.{AtContext}
 use Rattle.infer_result.specs.declared.inferred.Inferred.{Inferred}
 use Rattle.infer_result.specs.Says.{Says}
@@ -23,12 +21,3 @@ module _ (image : List ℕ) (l : Layout) (names words lens : List ℕ) (x : Cont
 
   abbrev pub Infers : Type 0
   Infers = AtContext image l names words lens x (λ c. AtExpr image l nest at (λ e n. SaysOf c e))
-
-  -- of an operation whose operands nest at most so deep
-  abbrev pub InfersBinary : Type 0
-  InfersBinary = AtContext image l names words lens x (λ c. (outer op : ℕ) (d e : Expr) (n : ℕ) → outer - 1 ≡ nest
-      → Stood (l .names .rows) (l .strings .rows) (pool-words image l) outer (Expr.binary op d e) at n → SaysOf c (Expr.binary op d e))
-
-  abbrev pub InfersUnary : Type 0
-  InfersUnary = AtContext image l names words lens x (λ c. (outer op : ℕ) (e : Expr) (n : ℕ) → outer - 1 ≡ nest
-      → Stood (l .names .rows) (l .strings .rows) (pool-words image l) outer (Expr.unary op e) at n → SaysOf c (Expr.unary op e))

@@ -1,13 +1,12 @@
--- A generic name that is no alias, and one that is. Assumes nothing.
+-- A generic name that is an alias. Assumes nothing.
 use Prim.Native.Nat.{ℕ, suc, _+_}
 use mathlib.Core.Path.{_≡_, refl, sym, ap, subst₂, _∙_}
-use mathlib.Core.Bool.{true, false}
+use mathlib.Core.Bool.{true}
 use mathlib.Core.List.{List, [], _∷_}
 use mathlib.Core.Option.{Option, none, some}
 use native.Mathlib.Omega.{arith}
 use lib.ListN.{length, take}
 use Rattle.rules.specs.Syntax.{ResolvedType, TypeExpr, Param, CompiledSchema}
-use Rattle.rules.specs.Types.{POISON}
 use Rattle.rules.specs.Substitute.{after, lookup-alias}
 use Rattle.laws.specs.Visits.{Rec, short, plain-expand, plain-node}
 use Rattle.image_words.proofs.Steps.{true-false}
@@ -20,10 +19,6 @@ use Rattle.type_from_pool.specs.Held.{Expr-stands}
 use Rattle.subst_names.specs.Aliases.{IsAlias}
 
 module _ (s : CompiledSchema) (rec : Rec) (ps : List (Param ResolvedType)) (x : ℕ) (a : TypeExpr) where
-  pub is-poison : lookup-alias s x ≡ none → plain-node s rec ps (TypeExpr.generic x a) ≡ short 1 POISON
-  unfolding plain-node plain-expand
-  is-poison e = ap (plain-expand s rec ps a) e
-
   -- the argument, then the target with only the alias's parameter in view
   pub is-expanded : (p : Param TypeExpr) → lookup-alias s x ≡ some p
       → plain-node s rec ps (TypeExpr.generic x a) ≡ after (rec ps a) (λ v t. after (rec (record { name = p .name; ty = t } ∷ []) (p .ty)) (λ w u. short (suc (v + w)) u))
@@ -31,10 +26,6 @@ module _ (s : CompiledSchema) (rec : Rec) (ps : List (Param ResolvedType)) (x : 
   is-expanded p e = ap (plain-expand s rec ps a) e
 
 module _ (names : ℕ) (ws : List ℕ) (r : Alias) where
-  pub no-alias : (o : Option (Param TypeExpr)) → IsAlias names ws r o → r .some ≡ false → o ≡ none
-  no-alias none h e = refl
-  no-alias (some p) h e = absurd (true-false (sym (h .0) ∙ e))
-
   pub record Found (o : Option (Param TypeExpr)) : Type 0 where
     pub param : Param TypeExpr
     pub is : o ≡ some param

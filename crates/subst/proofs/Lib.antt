@@ -1,3 +1,4 @@
-pub mod Nodes
 pub mod Generic
 pub mod Bounds
+pub mod Added
+pub mod Arms

@@ -1,115 +1,113 @@
 // Nodes with parts: the resolver and the expander of generic aliases, which call each other. The visits left fall with each node read.
+//
+// These calls nest up to 1,024 deep, so each frame holds one type by value and no more; the rest lies in lent words. A
+// function that calls itself is not made part of its callers: so each of the three has a frame of its own.
 use image_layout::Layout;
-use rules::ids::NameId;
-use rules::kinds::TypeKind;
+use rules::bounds::TYPE_WORDS;
 use subst_leaves::Resolved;
-use subst_leaves::failed;
+use subst_names::generic::Alias;
+use subst_parts::Parts;
+use subst_parts::node_at;
+use subst_parts::resolve_whole;
+use subst_parts::start_behind;
+use subst_parts::start_of;
 use type_words::HeldType;
-ghost use Prim.Native.Nat.{_<_};
+use type_words::lent::push_back;
+use type_words::lent::push_fixed;
+use type_words::lent::push_front;
+use type_words::lent::put_at;
+ghost use Prim.Native.Nat.{_≤_};
+ghost use mathlib.Core.Path.{_≡_};
+ghost use lib.ListN.{length};
 ghost use Rattle.image_layout.specs.Rows.{Cut};
 ghost use Rattle.subst_leaves.specs.Says.{Keeps};
-ghost use Rattle.subst_leaves.specs.Nodes.{Substitutes, Ones, Fixeds, Twos, Generics};
+ghost use Rattle.subst_leaves.specs.Nodes.{Substitutes};
+ghost use Rattle.subst.specs.Lent.{resolved, Appends, Expands};
 
-// A code and one part.
-fn one(image: &[u8], l: Layout, at: usize, left: u32, params: &[u32]) -> Resolved
-    requires { ⌜ Cut (now image) l × (at < l .pool .len) ⌝ }
-    ensures { λ r. ⌜ Keeps left r (Ones (now (image .entry)) l at left (now (params .entry)) r) ⌝ }
-{
-    let a = substitute_type(image, l, at + 1, left, params);
-    if !a.ok {
-        return a;
-    }
-    let pool = l.pool;
-    let x = a.ty;
-    let g = HeldType::one(image_words::section_word(image, pool, at), x);
-    let ty = g.ty;
-    Resolved {
-        ok: g.ok,
-        next: a.next,
-        left: a.left,
-        ty,
-    }
+// What comes of a node beside its words, which are lent.
+pub struct End {
+    pub ok: bool,
+    pub next: usize,
+    pub left: u32,
+    pub len: usize,
 }
 
-// A fixed array: the two words of its length, and its part.
-fn fixed(image: &[u8], l: Layout, at: usize, left: u32, params: &[u32]) -> Resolved
-    requires { ⌜ Cut (now image) l × (at < l .pool .len) ⌝ }
-    ensures { λ r. ⌜ Keeps left r (Fixeds (now (image .entry)) l at left (now (params .entry)) r) ⌝ }
+// The expression at `at`, its words behind the first n. Of a node of two parts the code and the first part come first,
+// and it goes on with the second.
+fn append(
+    image: &[u8],
+    l: Layout,
+    at: usize,
+    left: u32,
+    params: &[u32],
+    words: &mut [u32; TYPE_WORDS],
+    n: usize,
+) -> End
+    requires { ⌜ Cut (now image) l × (length (now words) ≡ 64) × (n ≤ 64) ⌝ }
+    ensures { λ r. ⌜ Appends (now (image .entry)) l at left (now (params .entry)) (now (words .entry)) n r (now (words .exit)) ⌝ }
 {
-    let a = substitute_type(image, l, at + 1 + 1 + 1, left, params);
-    if !a.ok {
-        return a;
-    }
+    let node = node_at(image, l, at, left);
+    let start = start_behind(node, at, left, n);
     let pool = l.pool;
-    let low = image_words::section_word(image, pool, at + 1);
-    let high = image_words::section_word(image, pool, at + 1 + 1);
-    let x = a.ty;
-    let g = HeldType::fixed(low, high, x);
-    let ty = g.ty;
-    Resolved {
-        ok: g.ok,
-        next: a.next,
-        left: a.left,
-        ty,
+    put_at(words, n, image_words::section_word(image, pool, at));
+    let b = substitute_type(image, l, start.at, start.left, params);
+    let ty = b.ty;
+    let g = push_back(words, start.len, ty);
+    let ok = b.ok & g.ok;
+    if start.again {
+        if ok {
+            return append(image, l, b.next, b.left, params, words, g.len);
+        }
     }
-}
-
-// A code and two parts.
-fn two(image: &[u8], l: Layout, at: usize, left: u32, params: &[u32]) -> Resolved
-    requires { ⌜ Cut (now image) l × (at < l .pool .len) ⌝ }
-    ensures { λ r. ⌜ Keeps left r (Twos (now (image .entry)) l at left (now (params .entry)) r) ⌝ }
-{
-    let a = substitute_type(image, l, at + 1, left, params);
-    if !a.ok {
-        return a;
-    }
-    let m = a.next;
-    let rest = a.left;
-    let b = substitute_type(image, l, m, rest, params);
-    if !b.ok {
-        return b;
-    }
-    let pool = l.pool;
-    let x = a.ty;
-    let y = b.ty;
-    let g = HeldType::two(image_words::section_word(image, pool, at), x, y);
-    let ty = g.ty;
-    Resolved {
-        ok: g.ok,
+    End {
+        ok,
         next: b.next,
         left: b.left,
-        ty,
+        len: g.len,
     }
 }
 
-// A generic alias: its argument, then its target with only its own parameter in view. A name that is none reads no argument.
-fn expand(image: &[u8], l: Layout, at: usize, left: u32, params: &[u32]) -> Resolved
-    requires { ⌜ Cut (now image) l × (at < l .pool .len) ⌝ }
-    ensures { λ r. ⌜ Keeps left r (Generics (now (image .entry)) l at left (now (params .entry)) r) ⌝ }
+// An alias whose argument is the first n words: its target in their place, with only its own parameter in view. A target
+// that is an alias again is expanded in turn: its argument first.
+fn expand(
+    image: &[u8],
+    l: Layout,
+    alias: Alias,
+    next: usize,
+    left: u32,
+    words: &mut [u32; TYPE_WORDS],
+    n: usize,
+) -> End
+    requires { ⌜ Cut (now image) l × (length (now words) ≡ 64) ⌝ }
+    ensures { λ r. ⌜ Expands (now (image .entry)) l alias next left (now (words .entry)) n r (now (words .exit)) ⌝ }
 {
-    let pool = l.pool;
-    let x = NameId(image_words::section_word(image, pool, at + 1));
-    let alias = subst_names::generic::lookup_alias(image, l, x);
-    if !alias.some {
-        return subst_leaves::poison(image, l, at + 1 + 1, left);
-    }
-    let a = substitute_type(image, l, at + 1 + 1, left, params);
-    if !a.ok {
-        return a;
-    }
-    let argument = a.ty;
+    let given = *words;
+    let argument = HeldType {
+        words: given,
+        len: n,
+    };
     let mut own = [0u32; subst_params::ROW];
     subst_params::write_row(&mut own, 0, alias.param, argument);
     let view = subst_params::rows(&own, 1);
     let target = alias.target;
-    let rest = a.left;
-    let b = substitute_type(image, l, target, rest, view);
+    let node = node_at(image, l, target, left);
+    let start = start_of(node, target, left);
+    let b = substitute_type(image, l, start.at, start.left, view);
     let ty = b.ty;
-    Resolved {
+    let len = ty.len;
+    let own_words = ty.words;
+    *words = own_words;
+    let again = node.alias;
+    if again.some {
+        if b.ok {
+            return expand(image, l, again, next, b.left, words, len);
+        }
+    }
+    End {
         ok: b.ok,
-        next: a.next,
+        next,
         left: b.left,
-        ty,
+        len,
     }
 }
 
@@ -117,24 +115,69 @@ pub fn substitute_type(image: &[u8], l: Layout, at: usize, left: u32, params: &[
     requires { ⌜ Cut (now image) l ⌝ }
     ensures { λ r. ⌜ Keeps left r (Substitutes (now (image .entry)) l at left (now (params .entry)) r) ⌝ }
 {
-    if left == 0 {
-        return failed();
+    let node = node_at(image, l, at, left);
+    let first = node.first;
+    let mut a = resolve_whole(image, l, at, left, params);
+    if first == 0 {
+        return a;
+    } else {
+        a = substitute_type(image, l, first, left - 1, params);
+    }
+    if !a.ok {
+        return a;
     }
     let pool = l.pool;
-    if pool.len <= at {
-        return failed();
-    }
-    let k = codes::type_kind(image_words::section_word(image, pool, at));
-    match k {
-        TypeKind::Plain => subst_leaves::leaf(image, l, at, left - 1),
-        TypeKind::Sub => subst_leaves::leaf(image, l, at, left - 1),
-        TypeKind::Bits => subst_leaves::leaf(image, l, at, left - 1),
-        TypeKind::Named => subst_leaves::named(image, l, at, left - 1, params),
-        TypeKind::Qualified => subst_leaves::qualified(image, l, at, left - 1),
-        TypeKind::Generic => expand(image, l, at, left - 1, params),
-        TypeKind::One => one(image, l, at, left - 1, params),
-        TypeKind::Fixed => fixed(image, l, at, left - 1, params),
-        TypeKind::Two => two(image, l, at, left - 1, params),
-        TypeKind::Unknown => failed(),
+    let next = a.next;
+    let rest = a.left;
+    let n = a.ty.len;
+    let mut e = End {
+        ok: false,
+        next,
+        left: rest,
+        len: n,
+    };
+    let parts = node.parts;
+    match parts {
+        Parts::Whole => {
+            a.ok = false;
+            return a;
+        }
+        Parts::One => {
+            let code = image_words::section_word(image, pool, at);
+            let g = push_front(code, &mut a.ty.words, n);
+            a.ok = g.ok;
+            a.ty.len = g.len;
+            return a;
+        }
+        Parts::Fixed => {
+            let low = image_words::section_word(image, pool, at + 1);
+            let high = image_words::section_word(image, pool, at + 1 + 1);
+            let g = push_fixed(low, high, &mut a.ty.words, n);
+            a.ok = g.ok;
+            a.ty.len = g.len;
+            return a;
+        }
+        Parts::Two => {
+            let code = image_words::section_word(image, pool, at);
+            let g = push_front(code, &mut a.ty.words, n);
+            if !g.ok {
+                a.ok = false;
+                return a;
+            }
+            e = append(image, l, next, rest, params, &mut a.ty.words, g.len);
+            a.ok = e.ok;
+            a.next = e.next;
+            a.left = e.left;
+            a.ty.len = e.len;
+            return a;
+        }
+        Parts::Alias => {
+            e = expand(image, l, node.alias, next, rest, &mut a.ty.words, n);
+            a.ok = e.ok;
+            a.next = e.next;
+            a.left = e.left;
+            a.ty.len = e.len;
+            return a;
+        }
     }
 }

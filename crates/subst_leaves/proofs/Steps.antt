@@ -10,8 +10,8 @@ use Rattle.rules.specs.Syntax.{ResolvedType, run}
 use Rattle.rules.specs.Substitute.{Counted, too-large, done, after}
 use Rattle.laws.specs.Visits.{short}
 use Rattle.image_words.proofs.Steps.{true-false}
+use Rattle.type_words.specs.Runs.{Grown}
 use Rattle.type_words.specs.declared.HeldType.{HeldType}
-use Rattle.type_words.specs.declared.Grown.{Grown}
 use Rattle.type_words.specs.Holds.{Holds}
 use Rattle.type_words.proofs.Trees.{Built}
 use Rattle.subst_leaves.specs.declared.Resolved.{Resolved}

@@ -1,3 +1,4 @@
 pub mod Runs
 pub mod Trees
 pub mod Maybe
+pub mod Carried

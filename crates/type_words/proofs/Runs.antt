@@ -6,13 +6,12 @@ use native.Mathlib.Decide.{decLe}
 use native.Mathlib.Nat.{add-zero, add-assoc}
 use mathlib.Core.Path.{_≡_, sym, ap, _∙_, subst}
 use mathlib.Core.Bool.{true, false, false≢true}
-use mathlib.Core.List.{List, _++_, append-nil, append-assoc}
-use lib.ListN.{length, take, set, getD, length-take, length-append, List·getD-eq-default}
+use mathlib.Core.List.{List, _∷_, _++_, append-nil, append-assoc}
+use lib.ListN.{length, take, set, getD, length-take, List·getD-eq-default}
 use lib.Seq.{getD-take, take-suc, take-suc-set, take-all}
 use borrow.Author.Tests.{le-leb, lt-leb, leb-false}
 use Rattle.type_words.specs.declared.HeldType.{HeldType}
-use Rattle.type_words.specs.declared.Grown.{Grown}
-use Rattle.type_words.specs.Runs.{held-run, Runs, Grows}
+use Rattle.type_words.specs.Runs.{held-run, Runs, Grows, Grown}
 
 -- a run has as many words as its count says, and at most 64
 pub run-length : (h : HeldType) → length (h .words) ≡ 64 → length (held-run h) ≡ min (h .len) 64
@@ -68,8 +67,16 @@ copied-more n i from words₀ words h k e =
 pub grows-at : {l m : List ℕ} {r : Grown} → Grows l r → l ≡ m → Grows m r
 grows-at {r = r} g e = subst (λ (x : List ℕ). Grows x r) e g
 
--- what is too long stays so with more behind it
-pub grows-over : (r : Grown) (l m : List ℕ) → r .ok ≡ false → Grows l r → Grows (l ++ m) r
-grows-over r l m e g =
+pub grows-behind : {w : ℕ} {l m : List ℕ} {r : Grown} → Grows (w ∷ l) r → l ≡ m → Grows (w ∷ m) r
+grows-behind {w} {r = r} g e = subst (λ (x : List ℕ). Grows (w ∷ x) r) e g
+
+-- what grew is the run below its count
+pub grown-run : {l : List ℕ} {r : Grown} → Grows l r → r .ok ≡ true → take (r .ty .len) (r .ty .words) ≡ l
+unfolding held-run
+grown-run g e = g .runs e .run
+
+-- what is too long stays so with a word before it
+pub grows-under : (r : Grown) (w : ℕ) (l : List ℕ) → r .ok ≡ false → Grows l r → Grows (w ∷ l) r
+grows-under r w l e g =
     let o : 64 < length l = leb-false (length l) 64 (sym (g .ok) ∙ e) in
-    record { ok = e ∙ sym (lt-leb (length (l ++ m)) 64 (simp length-append (omega arith))); runs = λ t. absurd (false≢true (sym e ∙ t)) }
+    record { ok = e ∙ sym (lt-leb (length (w ∷ l)) 64 (omega arith)); runs = λ t. absurd (false≢true (sym e ∙ t)) }

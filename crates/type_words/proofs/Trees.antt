@@ -1,8 +1,8 @@
 -- Held trees: what the makers of held types give, as types of the rules. Assumes nothing.
 use Prim.Native.Nat.{ℕ}
-use mathlib.Core.Path.{_≡_, ap, ap₂}
+use mathlib.Core.Path.{_≡_, ap}
 use mathlib.Core.Bool.{true}
-use mathlib.Core.List.{List, [], _∷_, _++_}
+use mathlib.Core.List.{List, [], _∷_}
 use lib.ListN.{length}
 use lib.Dec.{leb}
 use Rattle.rules.specs.Syntax.{ResolvedType, run}
@@ -10,8 +10,7 @@ use Rattle.rules.specs.Kinds.{type-kind}
 use Rattle.rules.specs.declared.kinds.TypeKind.{TypeKind}
 use Rattle.rules.specs.Good.{Good}
 use Rattle.type_words.specs.declared.HeldType.{HeldType}
-use Rattle.type_words.specs.declared.Grown.{Grown}
-use Rattle.type_words.specs.Runs.{held-run, Runs, Grows}
+use Rattle.type_words.specs.Runs.{held-run, Runs, Grows, Grown}
 use Rattle.type_words.specs.Holds.{Holds}
 use Rattle.type_words.proofs.Runs.{grows-at}
 
@@ -43,9 +42,3 @@ pub fixed-built : {names low high : ℕ} {h : HeldType} {t : ResolvedType} {r : 
 unfolding run
 fixed-built {names} {low} {high} {t = t} g p =
     built names (ResolvedType.fixed low high t) (grows-at g (ap (λ (l : List ℕ). 66 ∷ low ∷ high ∷ l) (p .run))) (p .good)
-
-pub two-built : {names c : ℕ} {h k : HeldType} {t u : ResolvedType} {r : Grown}
-    → Grows (c ∷ (held-run h ++ held-run k)) r → Holds names h t → Holds names k u → type-kind c ≡ TypeKind.Two → Built names r (ResolvedType.two c t u)
-unfolding run
-two-built {names} {c} {t = t} {u = u} g p q k =
-    built names (ResolvedType.two c t u) (grows-at g (ap (λ (l : List ℕ). c ∷ l) (ap₂ _++_ (p .run) (q .run)))) (k, p .good, q .good)

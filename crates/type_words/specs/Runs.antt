@@ -1,12 +1,11 @@
 -- The words of a held type.
 use Prim.Native.Nat.{ℕ, _≤_}
 use mathlib.Core.Path.{_≡_}
-use mathlib.Core.Bool.{true}
+use mathlib.Core.Bool.{Bool, true}
 use mathlib.Core.List.{List}
 use lib.ListN.{length, take}
 use lib.Dec.{leb}
 use Rattle.type_words.specs.declared.HeldType.{HeldType}
-use Rattle.type_words.specs.declared.Grown.{Grown}
 
 -- the words below the count; nothing is said of the others
 unfoldable pub held-run : HeldType → List ℕ
@@ -17,6 +16,11 @@ pub record Runs (h : HeldType) (l : List ℕ) : Type 0 where
   pub run : held-run h ≡ l
   pub count : h .len ≡ length l
   pub small : h .len ≤ 64
+
+-- a type that was to grow: not ok where it would pass 64 words
+pub record Grown : Type 0 where
+  pub ok : Bool
+  pub ty : HeldType
 
 -- r holds the words l where they are at most 64, and is not ok where they are more
 pub record Grows (l : List ℕ) (r : Grown) : Type 0 where

@@ -1,10 +1,12 @@
 // A resolved type, held as its words in prefix order with their count, and the few functions that make one. Nothing is said of the words past the count.
+pub mod lent;
+
 ghost use mathlib.Core.Path.{_≡_};
 ghost use mathlib.Core.Bool.{true, false};
-ghost use mathlib.Core.List.{[], _∷_, _++_};
+ghost use mathlib.Core.List.{[], _∷_};
 ghost use Prim.Native.Nat.{_≤_};
 ghost use lib.ListN.{length, getD};
-ghost use Rattle.type_words.specs.Runs.{held-run, Runs, Grows};
+ghost use Rattle.type_words.specs.Runs.{held-run, Runs};
 use rules::bounds::TYPE_WORDS;
 use rules::ids::TypeId;
 use rules::tags::TypeTag;
@@ -17,12 +19,6 @@ pub struct HeldType {
 // A type or none.
 pub struct MaybeType {
     pub some: bool,
-    pub ty: HeldType,
-}
-
-// A type that was to grow: not ok where it would pass 64 words.
-pub struct Grown {
-    pub ok: bool,
     pub ty: HeldType,
 }
 
@@ -68,68 +64,6 @@ impl HeldType {
         words[0] = TypeTag::NAMED;
         words[1] = id.0;
         HeldType { words, len: 2 }
-    }
-
-    // Another run behind this one.
-    pub fn append(self, other: HeldType) -> Grown
-        ensures { λ r. ⌜ Grows (held-run self ++ held-run other) r ⌝ }
-    {
-        let n = self.count();
-        let m = other.count();
-        if TYPE_WORDS - n < m {
-            return Grown {
-                ok: false,
-                ty: self,
-            };
-        }
-        let from = other.words;
-        let mut words = self.words;
-        let mut i = 0;
-        while i < m {
-            words[n + i] = from[i];
-            i += 1;
-        }
-        Grown {
-            ok: true,
-            ty: HeldType { words, len: n + m },
-        }
-    }
-
-    // A code and one part: Optional, Array, Set, the vectors and the matrices.
-    pub fn one(code: u32, part: HeldType) -> Grown
-        ensures { λ r. ⌜ Grows (code ∷ held-run part) r ⌝ }
-    {
-        HeldType::plain(code).append(part)
-    }
-
-    // A fixed array: the two words of its length and its part.
-    pub fn fixed(low: u32, high: u32, part: HeldType) -> Grown
-        ensures { λ r. ⌜ Grows (66 ∷ low ∷ high ∷ held-run part) r ⌝ }
-    {
-        HeldType::header(TypeTag::FIXED_ARRAY, low, high).append(part)
-    }
-
-    // A code and two parts: Map, Result.
-    pub fn two(code: u32, left: HeldType, right: HeldType) -> Grown
-        ensures { λ r. ⌜ Grows (code ∷ (held-run left ++ held-run right)) r ⌝ }
-    {
-        let g = HeldType::one(code, left);
-        if g.ok {
-            let t = g.ty;
-            return t.append(right);
-        }
-        g
-    }
-
-    // Three words.
-    fn header(code: u32, low: u32, high: u32) -> HeldType
-        ensures { λ r. ⌜ Runs r (code ∷ low ∷ high ∷ []) ⌝ }
-    {
-        let mut words = [0u32; TYPE_WORDS];
-        words[0] = code;
-        words[1] = low;
-        words[2] = high;
-        HeldType { words, len: 3 }
     }
 }
 

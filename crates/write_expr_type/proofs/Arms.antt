@@ -1,9 +1,9 @@
 -- Each kind of expression, by the code that stands there.
 use Prim.Native.Nat.{ℕ, _<_, _≤_}
-use mathlib.Core.Path.{_≡_, sym, subst, _∙_}
-use mathlib.Core.Bool.{true, false, cond}
+use mathlib.Core.Path.{_≡_, refl, sym, subst, _∙_}
+use mathlib.Core.Bool.{Bool, true, false, cond}
 use mathlib.Core.List.{List}
-use mathlib.Core.Option.{Option, none}
+use mathlib.Core.Option.{Option, none, some}
 use lib.ListN.{getD}
 use borrow.Author.Tests.{lt-ltb, le-ltb}
 use Rattle.rules.specs.Syntax.{ResolvedType, run, Expr}
@@ -87,16 +87,33 @@ module _ {names strings : ℕ} {ws : List ℕ} {nest at n : ℕ} (c : FunctionCo
   pub told-unknown : expr-kind (getD ws at 0) ≡ ExprKind.Unknown → (e : Expr) → Told names strings ws nest at n c r e
   told-unknown q e s = by-code (Told names strings ws nest at n c r) q tt e s s
 
--- a binary's type, and its left's
-module _ (c : FunctionContext) (names op : ℕ) (d e : Expr) (r : HeldType) where
-  pub binary-compares : 4 ≤ op → Holds names r BOOL → Holds names r (foretold c (Expr.binary op d e))
-  unfolding foretold
-  binary-compares l h = rw (le-ltb op 4 l) h
+-- a binary's type, by what is told before its left is asked
+abbrev pub before-left : FunctionContext → ℕ → Expr → Expr → Option ResolvedType
+before-left c op d e = cond (is-arithmetic op) (binary-hint c op d e none) (some BOOL)
 
-  pub binary-computes : op < 4 → Holds names r (or (binary-hint c op d e none) (foretold c d)) → Holds names r (foretold c (Expr.binary op d e))
-  unfolding foretold
-  binary-computes l h = rw (lt-ltb op 4 l) h
+module _ (c : FunctionContext) (names op : ℕ) (d e : Expr) (m : MaybeType) where
+  pub compares : 4 ≤ op → MaybeHolds names m (some BOOL) → MaybeHolds names m (before-left c op d e)
+  compares l w = rw (le-ltb op 4 l) w
 
+  pub computes : op < 4 → MaybeHolds names m (binary-hint c op d e none) → MaybeHolds names m (before-left c op d e)
+  computes l w = rw (lt-ltb op 4 l) w
+
+module _ (c : FunctionContext) (names op : ℕ) (d e : Expr) (m : MaybeType) (w : MaybeHolds names m (before-left c op d e)) where
+  binary-opened : foretold c (Expr.binary op d e) ≡ or (before-left c op d e) (foretold c d)
+  unfolding foretold
+  binary-opened = go (is-arithmetic op)
+    where
+      go : (b : Bool) → cond b (or (binary-hint c op d e none) (foretold c d)) BOOL ≡ or (cond b (binary-hint c op d e none) (some BOOL)) (foretold c d)
+      go true = refl
+      go false = unfold or in refl
+
+  pub binary-told : m .some ≡ true → Holds names (m .ty) (foretold c (Expr.binary op d e))
+  binary-told q = subst (Holds names (m .ty)) (sym binary-opened) (or-some names m (before-left c op d e) (foretold c d) w q)
+
+  pub binary-left : m .some ≡ false → foretold c (Expr.binary op d e) ≡ foretold c d
+  binary-left q = binary-opened ∙ or-none names m (before-left c op d e) (foretold c d) w q
+
+-- the type of a binary's left
 module _ (c : FunctionContext) (names op : ℕ) (d e : Expr) (m : MaybeType) (w : MaybeHolds names m (binary-hint c op d e none)) (t : ResolvedType) where
   pub left-hinted : m .some ≡ true → Runs (m .ty) (run (left-type c op d e t))
   unfolding left-type

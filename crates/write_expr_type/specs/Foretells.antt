@@ -1,14 +1,11 @@
 -- What is foretold of whatever expression stands at a place.
-use Prim.Native.Nat.{ℕ, _-_}
-use mathlib.Core.Path.{_≡_}
+use Prim.Native.Nat.{ℕ}
 use mathlib.Core.List.{List}
-use Rattle.rules.specs.Syntax.{Expr}
 use Rattle.type_words.specs.declared.HeldType.{HeldType}
 use Rattle.type_words.specs.Holds.{Holds}
 use Rattle.image_layout.specs.declared.Layout.{Layout}
-use Rattle.image_layout.specs.Open.{pool-words}
 use Rattle.infer_context.specs.declared.Context.{Context}
-use Rattle.infer_context.specs.Stood.{Stood, AtExpr}
+use Rattle.infer_context.specs.Stood.{AtExpr}
 use Rattle.infer_context.specs.InContext.{AtContext}
 use Rattle.write_expr_type.specs.Foretold.{foretold}
 
@@ -16,7 +13,3 @@ use Rattle.write_expr_type.specs.Foretold.{foretold}
 module _ (image : List ℕ) (l : Layout) (names words lens : List ℕ) (x : Context) (at nest : ℕ) (r : HeldType) where
   abbrev pub Foretells : Type 0
   Foretells = AtContext image l names words lens x (λ c. AtExpr image l nest at (λ e n. Holds (l .names .rows) r (foretold c e)))
-
-  abbrev pub ForetellsBinary : Type 0
-  ForetellsBinary = AtContext image l names words lens x (λ c. (outer op : ℕ) (d e : Expr) (n : ℕ) → outer - 1 ≡ nest
-      → Stood (l .names .rows) (l .strings .rows) (pool-words image l) outer (Expr.binary op d e) at n → Holds (l .names .rows) r (foretold c (Expr.binary op d e)))

@@ -1,17 +1,21 @@
 //! The library asked through the crate, and decoding by itself.
 
 mod images;
-mod stored;
+pub mod stored;
+
+use std::thread;
 
 use crate::linked::Call;
 use crate::{call, decode, Accepted, PortableFunctionError, TypeId};
 
-const CALLS: &[Call] = &[
-    Call::ProjectImpl,
-    Call::ExpectedSignatures,
-];
+const CALLS: &[Call] = &[Call::ProjectImpl, Call::ExpectedSignatures];
 
 const SAMPLE: &[u8] = include_bytes!("../../../../samples/getgm.image");
+
+/// Runs on a thread of so many bytes; the system may give it some more.
+pub fn on_thread_of<T: Send>(bytes: usize, run: impl FnOnce() -> T + Send) -> T {
+    thread::scope(|scope| thread::Builder::new().stack_size(bytes).spawn_scoped(scope, run).unwrap().join().unwrap())
+}
 
 #[test]
 fn the_sample_has_its_signatures() {

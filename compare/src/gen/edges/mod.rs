@@ -3,6 +3,8 @@
 mod bodies;
 mod image;
 mod lone;
+mod reported;
+mod stack;
 mod traits;
 
 use super::bounds::BOUNDS;
@@ -39,6 +41,8 @@ pub fn edges() -> Vec<Edge> {
     edges.trailers();
     edges.lone_bounds();
     edges.deep_cycles();
+    edges.reported();
+    edges.stacks();
     edges.0
 }
 
@@ -106,11 +110,17 @@ fn literal(code: u32, value: i128) -> Words {
 
 /// 01's whole case.
 pub fn whole_case() -> Vec<u8> {
+    returned(&literal(0, 5))
+}
+
+/// 01's whole case with another value in its Return.
+fn returned(value: &[u32]) -> Vec<u8> {
+    let before = [0, 1, 0, 1, 0, 0, 2, 1, 1, 1, 48, 0, 0, 1, 0, 0, 1, 1, 1, 1, 2, 1];
     assemble(
         b"getGM".to_vec(),
         &[0, 3, NONE, NONE, 3, 1, 1, NONE, 4, 1, 0, NONE],
         &[],
-        &[0, 1, 0, 1, 0, 0, 2, 1, 1, 1, 48, 0, 0, 1, 0, 0, 1, 1, 1, 1, 2, 1, 0, 5, 0],
+        &[&before, value].concat(),
         &[1, 0, 3, 1, 4, 8],
     )
 }

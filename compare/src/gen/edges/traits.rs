@@ -15,8 +15,8 @@ impl Edges {
         self.implemented(label, rich, 2);
     }
 
-    /// A<T> = A<T> with as much around it as 64 words hold, and in its own argument: the deepest stacks of a call. A Map holds
-    /// the cycle as its first part, so that its second is still to come.
+    /// A<T> = A<T> with as much around it as 64 words hold, and in its own argument. A Map holds the cycle as its first part, so
+    /// that its second is still to come.
     pub(super) fn deep_cycles(&mut self) {
         for (label, before, after) in
             [("optionals", vec![64], vec![]), ("fixed-arrays", vec![66, 3, 0], vec![]), ("maps", vec![68], vec![U8])]

@@ -1,0 +1,3 @@
+pub mod Nodes
+pub mod Poison
+pub mod PartsLaws
