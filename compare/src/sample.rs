@@ -35,7 +35,7 @@ const TWICE: &[Call] = &[Call::ProjectImpl, Call::ExpectedSignatures];
 
 /// Edges that need the most stack, stored behind all else: those that were reported, and the deepest of each kind in each code
 /// that was measured.
-const DEEPEST: [(&str, &[Call]); 35] = [
+const DEEPEST: [(&str, &[Call]); 37] = [
     ("stack-self", ONCE),
     ("stack-one", ONCE),
     ("stack-fixed", ONCE),
@@ -71,6 +71,8 @@ const DEEPEST: [(&str, &[Call]); 35] = [
     ("stack-assign-neg-locals", ONCE),
     ("stack-assign-neg-locals-unknown", ONCE),
     ("stack-assign-neg-right-self", ONCE),
+    ("stack-ends-in-seconds-1024", TWICE),
+    ("stack-ends-in-seconds-1025", ONCE),
 ];
 
 /// Cases with images of at most so many bytes, as many of each number of each call as can be, then some large ones.

@@ -43,7 +43,8 @@ mod system {
     }
 
     thread_local! {
-        /// Asked for once a thread: for a program's first one C's library reads a file of the system.
+        /// Asked for once a thread: for a program's first one C's library reads a file of the system. A limit that the
+        /// program lowers later is not seen.
         static BOUNDS: Option<Range<usize>> = asked();
     }
 

@@ -146,14 +146,41 @@ pub fn ending(rng: &mut Rng, model: &mut Model, around: &[Around], visits: usize
     let level = 4 + around.iter().map(|one| one.visits()).sum::<usize>();
     // `C<u8>` and its argument, then the targets.
     let (levels, rest) = ((visits - 3) / level, (visits - 3) % level + 1);
-    let last = match rest {
-        1 | 2 => [vec![64; rest - 1], vec![48, param]].concat(),
-        _ => [vec![50, drops], vec![64; rest - 3], vec![48, param]].concat(),
-    };
-    let mut next = alias(rng, model, param, |_| last);
+    let mut next = alias(rng, model, param, |_| last(drops, param, rest));
     for _ in 0..levels {
         let target = others.around(rng, model, NONE, around, &[50, next, 48, param]);
         next = alias(rng, model, param, |_| [vec![50, drops], target].concat());
+    }
+    vec![50, next, U8]
+}
+
+/// A target of so many visits with at most two words.
+fn last(drops: u32, param: u32, visits: usize) -> Words {
+    match visits {
+        1 | 2 => [vec![64; visits - 1], vec![48, param]].concat(),
+        _ => [vec![50, drops], vec![64; visits - 3], vec![48, param]].concat(),
+    }
+}
+
+/// More aliases than these would be more definitions than an image has, with those of `tiny`.
+const SECONDS: usize = 248;
+
+/// As many second parts of Maps as a run holds.
+const GROUP: usize = 31;
+
+/// An expression of exactly so many visits that ends, as deep as it can be: each alias holds the next in a Map's second part, and
+/// only where a run is full is it dropped.
+pub fn ending_in_seconds(rng: &mut Rng, model: &mut Model, visits: usize) -> Words {
+    let param = model.fresh_name(rng, NONE);
+    let drops = alias(rng, model, param, |_| vec![U8]);
+    let cost = |levels: usize| 4 * levels + 2 * (levels / GROUP);
+    // `C<u8>` and its argument, then the targets.
+    let levels = (0..=SECONDS).rev().find(|levels| cost(*levels) + 3 <= visits).unwrap_or(0);
+    let mut next = alias(rng, model, param, |_| last(drops, param, visits - 2 - cost(levels)));
+    for level in 1..=levels {
+        let target = vec![68, U8, 50, next, 48, param];
+        let dropped = if level % GROUP == 0 { vec![50, drops] } else { vec![] };
+        next = alias(rng, model, param, |_| [dropped, target].concat());
     }
     vec![50, next, U8]
 }
@@ -205,6 +232,18 @@ mod tests {
             let answer = answer(&model, IMPL);
             let expected = if visits > 1_024 { (8, 0) } else { (0, visits as u32) };
             assert_eq!((answer.number, answer.visits), expected, "seed {seed}");
+        }
+    }
+
+    #[test]
+    fn endings_in_seconds_have_them_too() {
+        for visits in 1_000..1_030 {
+            let (mut rng, mut model) = (Rng::new(3), tiny().model);
+            let expression = ending_in_seconds(&mut rng, &mut model, visits);
+            model.trait_of(IMPL).functions[0].params[0].1 = expression;
+            let answer = answer(&model, IMPL);
+            let expected = if visits > 1_024 { (8, 0) } else { (0, visits as u32) };
+            assert_eq!((answer.number, answer.visits), expected, "{visits} visits");
         }
     }
 

@@ -1,7 +1,8 @@
 // Nodes with parts: the resolver and the expander of generic aliases, which call each other. The visits left fall with each node read.
 //
-// These calls nest up to 1,024 deep, so each frame holds one type by value and no more; the rest lies in lent words. A
-// function that calls itself is not made part of its callers: so each of the three has a frame of its own.
+// These calls nest up to 1,024 deep, so each frame holds one answer by value; beside it `expand` has its parameter's row, and
+// `append` a copy of the type that it puts behind the words. What grows lies in lent words. A function that calls itself
+// is not made part of its callers: so each of the three has a frame of its own.
 use image_layout::Layout;
 use rules::bounds::TYPE_WORDS;
 use subst_leaves::Resolved;
@@ -22,7 +23,7 @@ ghost use lib.ListN.{length};
 ghost use Rattle.image_layout.specs.Rows.{Cut};
 ghost use Rattle.subst_leaves.specs.Says.{Keeps};
 ghost use Rattle.subst_leaves.specs.Nodes.{Substitutes};
-ghost use Rattle.subst.specs.Lent.{resolved, Appends, Expands};
+ghost use Rattle.subst.specs.Lent.{Appends, Expands};
 
 // What comes of a node beside its words, which are lent.
 pub struct End {

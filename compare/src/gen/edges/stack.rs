@@ -75,6 +75,10 @@ impl Edges {
                 self.substituted(format!("stack-ends-{label}-{visits}"), make);
             }
         }
+        for visits in [1_023, 1_024, 1_025] {
+            let make = |rng: &mut Rng, model: &mut Model| deep::ending_in_seconds(rng, model, visits);
+            self.substituted(format!("stack-ends-in-seconds-{visits}"), make);
+        }
     }
 
     /// In each place that has a value: accepted, and refused at the innermost level.
