@@ -223,7 +223,7 @@ mod tests {
     /// Judges edges and random cases with a side beside both calls.
     fn beside(side: Side) -> Result<(), String> {
         let mut judge = Judge::with([Some(side); 2]);
-        for case in gen::edge_cases().chain(gen::Cases::with_deep(5).take(3_000)) {
+        for case in gen::edge_cases().chain(gen::Cases::with_families(5).take(3_000)) {
             judge.judge(&case).map_err(|said| format!("{said}: {}", crate::text::question(&case)))?;
         }
         Ok(())

@@ -125,7 +125,7 @@ fn command(words: &[String]) -> Result<(), Failure> {
 
 fn run(options: &Options) -> Result<(), Failure> {
     let (seed, count) = (options.number("seed", 1)?, options.number("cases", 100_000)?);
-    judged(Judge::default(), seed, count, gen::edge_cases().chain(gen::Cases::with_deep(seed)))
+    judged(Judge::default(), seed, count, gen::edge_cases().chain(gen::Cases::with_families(seed)))
 }
 
 /// Judges so many cases; a table.

@@ -17,12 +17,13 @@ const BATCH: usize = 256;
 /// A side is asked so often, and its fastest time counts: a busy machine must not count.
 const ROUNDS: usize = 3;
 
-const SOURCES: [(Source, &str); 6] = [
+const SOURCES: [(Source, &str); 7] = [
     (Source::Edge, "edge"),
     (Source::Alike, "alike"),
     (Source::Rich, "rich"),
     (Source::Bound, "bound"),
     (Source::Deep, "deep"),
+    (Source::Halves, "halves"),
     (Source::Damaged, "damaged"),
 ];
 

@@ -33,9 +33,13 @@ const ASKED_TWICE: [&str; 13] = [
 const ONCE: &[Call] = &[Call::ProjectImpl];
 const TWICE: &[Call] = &[Call::ProjectImpl, Call::ExpectedSignatures];
 
-/// Edges that need the most stack, stored behind all else: those that were reported, and the deepest of each kind in each code
-/// that was measured.
-const DEEPEST: [(&str, &[Call]); 37] = [
+/// Edges that are stored behind all else, by how their labels start: what needs the most stack, and then qualified names.
+const BEHIND: [&str; 2] = ["stack-", HALVES];
+const HALVES: &str = "halves-";
+
+/// Of the edges that need the most stack those that were reported, the deepest of each kind in each code that was measured, and
+/// the deepest of all with a qualified name.
+const DEEPEST: [(&str, &[Call]); 41] = [
     ("stack-self", ONCE),
     ("stack-one", ONCE),
     ("stack-fixed", ONCE),
@@ -73,6 +77,10 @@ const DEEPEST: [(&str, &[Call]); 37] = [
     ("stack-assign-neg-right-self", ONCE),
     ("stack-ends-in-seconds-1024", TWICE),
     ("stack-ends-in-seconds-1025", ONCE),
+    ("stack-cycle-second-qualified-1", ONCE),
+    ("stack-cycle-second-qualified-127", ONCE),
+    ("stack-ends-in-seconds-1024-qualified-1", ONCE),
+    ("stack-ends-in-seconds-1024-qualified-127", ONCE),
 ];
 
 /// Cases with images of at most so many bytes, as many of each number of each call as can be, then some large ones.
@@ -108,7 +116,7 @@ pub fn balanced(seed: u64, count: usize, most: usize, large: usize) -> Result<Sa
     Ok(sample)
 }
 
-/// The vectors: every edge, a few random cases of each number, and the deepest edges.
+/// The vectors: every edge, a few random cases of each number, the deepest edges, and those of qualified names.
 pub fn vectors(seed: u64) -> Result<Sample, String> {
     let mut judge = Judge::default();
     let mut sample = vec![];
@@ -117,8 +125,8 @@ pub fn vectors(seed: u64) -> Result<Sample, String> {
         sample.push((label, case, whole));
         Ok(())
     };
-    let (deep, edges): (Vec<Edge>, Vec<Edge>) =
-        gen::edges().into_iter().partition(|edge| edge.label.starts_with("stack-"));
+    let (behind, edges): (Vec<Edge>, Vec<Edge>) =
+        gen::edges().into_iter().partition(|edge| BEHIND.iter().any(|start| edge.label.starts_with(start)));
     for (place, edge) in edges.into_iter().filter(stored).enumerate() {
         let whole_case = edge.label == "whole-case";
         let starts = |start: &&str| edge.label.starts_with(*start);
@@ -139,13 +147,27 @@ pub fn vectors(seed: u64) -> Result<Sample, String> {
     for (label, case, _) in balanced(seed, 68, 1_200, 0)? {
         add(format!("random-{label}"), case)?;
     }
-    for (place, (label, calls)) in DEEPEST.into_iter().enumerate() {
-        let edge = deep.iter().find(|edge| edge.label == label).ok_or(format!("there is no edge {label}"))?;
+    for (place, (edge, calls)) in chosen(&behind)?.into_iter().enumerate() {
         for (base, need) in asked(edge, place, calls) {
-            add(label.into(), lent(place, &base, need))?;
+            add(edge.label.clone(), lent(place, &base, need))?;
         }
     }
     Ok(sample)
+}
+
+/// What is stored behind all else, in its order. Qualified names are asked for twice where a row is found and the image is small.
+fn chosen(behind: &[Edge]) -> Result<Vec<(&Edge, &'static [Call])>, String> {
+    let labelled =
+        |label: &str| behind.iter().find(|edge| edge.label == label).ok_or(format!("there is no edge {label}"));
+    let mut chosen = vec![];
+    for (label, calls) in DEEPEST {
+        chosen.push((labelled(label)?, calls));
+    }
+    for edge in behind.iter().filter(|edge| edge.label.starts_with(HALVES)) {
+        let twice = !edge.label.ends_with("-nothing") && edge.image.len() < 2_000;
+        chosen.push((edge, if twice { TWICE } else { ONCE }));
+    }
+    Ok(chosen)
 }
 
 /// An edge for some calls, each with the output that it needs.

@@ -136,6 +136,13 @@ pub fn cycle(rng: &mut Rng, model: &mut Model, ring: &[Vec<Around>]) -> Words {
     vec![50, names[0], U8]
 }
 
+/// A<T> = Map<first, A<T>>: it never ends.
+pub fn cycle_behind(rng: &mut Rng, model: &mut Model, first: &[u32]) -> Words {
+    let param = model.fresh_name(rng, NONE);
+    let name = alias(rng, model, param, |name| [&[68], first, &[50, name, 48, param]].concat());
+    vec![50, name, U8]
+}
+
 /// An expression of exactly so many visits that ends with one word: each alias drops an argument, which holds these around the
 /// next alias. The last has what is left, in Optionals.
 pub fn ending(rng: &mut Rng, model: &mut Model, around: &[Around], visits: usize) -> Words {
@@ -146,7 +153,7 @@ pub fn ending(rng: &mut Rng, model: &mut Model, around: &[Around], visits: usize
     let level = 4 + around.iter().map(|one| one.visits()).sum::<usize>();
     // `C<u8>` and its argument, then the targets.
     let (levels, rest) = ((visits - 3) / level, (visits - 3) % level + 1);
-    let mut next = alias(rng, model, param, |_| last(drops, param, rest));
+    let mut next = alias(rng, model, param, |_| last(drops, &[48, param], rest));
     for _ in 0..levels {
         let target = others.around(rng, model, NONE, around, &[50, next, 48, param]);
         next = alias(rng, model, param, |_| [vec![50, drops], target].concat());
@@ -154,11 +161,11 @@ pub fn ending(rng: &mut Rng, model: &mut Model, around: &[Around], visits: usize
     vec![50, next, U8]
 }
 
-/// A target of so many visits with at most two words.
-fn last(drops: u32, param: u32, visits: usize) -> Words {
+/// A target of so many visits around a leaf, with at most one word more than the leaf's.
+fn last(drops: u32, leaf: &[u32], visits: usize) -> Words {
     match visits {
-        1 | 2 => [vec![64; visits - 1], vec![48, param]].concat(),
-        _ => [vec![50, drops], vec![64; visits - 3], vec![48, param]].concat(),
+        1 | 2 => [&vec![64; visits - 1], leaf].concat(),
+        _ => [&[50, drops], vec![64; visits - 3].as_slice(), leaf].concat(),
     }
 }
 
@@ -169,14 +176,15 @@ const SECONDS: usize = 248;
 const GROUP: usize = 31;
 
 /// An expression of exactly so many visits that ends, as deep as it can be: each alias holds the next in a Map's second part, and
-/// only where a run is full is it dropped.
-pub fn ending_in_seconds(rng: &mut Rng, model: &mut Model, visits: usize) -> Words {
+/// only where a run is full is it dropped. The innermost leaf is the alias's parameter where no other is given.
+pub fn ending_in_seconds(rng: &mut Rng, model: &mut Model, visits: usize, leaf: Option<&[u32]>) -> Words {
     let param = model.fresh_name(rng, NONE);
     let drops = alias(rng, model, param, |_| vec![U8]);
     let cost = |levels: usize| 4 * levels + 2 * (levels / GROUP);
     // `C<u8>` and its argument, then the targets.
     let levels = (0..=SECONDS).rev().find(|levels| cost(*levels) + 3 <= visits).unwrap_or(0);
-    let mut next = alias(rng, model, param, |_| last(drops, param, visits - 2 - cost(levels)));
+    let innermost = last(drops, leaf.unwrap_or(&[48, param]), visits - 2 - cost(levels));
+    let mut next = alias(rng, model, param, |_| innermost);
     for level in 1..=levels {
         let target = vec![68, U8, 50, next, 48, param];
         let dropped = if level % GROUP == 0 { vec![50, drops] } else { vec![] };
@@ -239,7 +247,7 @@ mod tests {
     fn endings_in_seconds_have_them_too() {
         for visits in 1_000..1_030 {
             let (mut rng, mut model) = (Rng::new(3), tiny().model);
-            let expression = ending_in_seconds(&mut rng, &mut model, visits);
+            let expression = ending_in_seconds(&mut rng, &mut model, visits, None);
             model.trait_of(IMPL).functions[0].params[0].1 = expression;
             let answer = answer(&model, IMPL);
             let expected = if visits > 1_024 { (8, 0) } else { (0, visits as u32) };

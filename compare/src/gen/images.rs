@@ -5,6 +5,7 @@ use super::bounds::BOUNDS;
 use super::damage::damage;
 use super::deep;
 use super::edges::edges;
+use super::halves;
 use super::large;
 use super::model::Model;
 use super::nested;
@@ -22,6 +23,8 @@ pub enum Source {
     Bound,
     /// Rich or small, with something that nests as deep as it can.
     Deep,
+    /// Rich or small, with qualified names for which there is a row, or nearly.
+    Halves,
     Damaged,
 }
 
@@ -38,29 +41,39 @@ pub struct Made {
 const AIMS: [u32; 28] =
     [0, 0, 0, 4, 5, 6, 6, 7, 7, 8, 8, 9, 10, 11, 12, 13, 14, 15, 16, 17, 18, 19, 20, 20, 21, 21, 22, 23];
 
-/// So many images of a hundred nest deep.
-const DEEP: usize = 4;
+/// Images of one kind between the others.
+struct Family {
+    /// So many of a hundred.
+    share: usize,
+    make: fn(&mut Rng) -> Made,
+    /// What makes its seed of the others'.
+    mask: u64,
+}
 
-/// Makes images from a seed. Those that nest deep have a stream of numbers of their own: the others are the same without them.
+const FAMILIES: [Family; 2] =
+    [Family { share: 4, make: make_deep, mask: u64::MAX }, Family { share: 4, make: make_halves, mask: u64::MAX / 3 }];
+
+/// Makes images from a seed. A family has a stream of numbers of its own: the others are the same without it.
 pub struct Maker {
     rng: Rng,
-    deep: Option<Rng>,
+    families: Vec<(Rng, Family)>,
 }
 
 impl Maker {
     pub fn new(seed: u64) -> Self {
-        Maker { rng: Rng::new(seed), deep: None }
+        Maker { rng: Rng::new(seed), families: vec![] }
     }
 
-    pub fn with_deep(seed: u64) -> Self {
-        Maker { rng: Rng::new(seed), deep: Some(Rng::new(!seed)) }
+    pub fn with_families(seed: u64) -> Self {
+        let families = FAMILIES.map(|family| (Rng::new(seed ^ family.mask), family));
+        Maker { rng: Rng::new(seed), families: families.into() }
     }
 
     /// An image, and the numbers that it was made of.
     pub fn make(&mut self) -> (Made, &mut Rng) {
-        if let Some(rng) = &mut self.deep {
-            if rng.chance(DEEP) {
-                return (make_deep(rng), rng);
+        for (rng, family) in &mut self.families {
+            if rng.chance(family.share) {
+                return ((family.make)(rng), rng);
             }
         }
         (make(&mut self.rng), &mut self.rng)
@@ -92,9 +105,9 @@ fn make(rng: &mut Rng) -> Made {
     Made { source, image, row: rich.row, rows: rich.model.defs.len() as u32 }
 }
 
-/// A type expression or a value that nests deep; now and then damaged.
+/// A type expression or a value that nests deep.
 fn make_deep(rng: &mut Rng) -> Made {
-    let Rich { model, row } = if rng.chance(30) {
+    let rich = if rng.chance(30) {
         nested::any(rng)
     } else {
         let mut rich = rich(rng, Some(0), 0);
@@ -103,13 +116,25 @@ fn make_deep(rng: &mut Rng) -> Made {
         implement(rng, &mut rich.model, rich.row, Some(0));
         rich
     };
+    laid_out(rng, Source::Deep, &rich)
+}
+
+/// Qualified names, sometimes with something else that is refused.
+fn make_halves(rng: &mut Rng) -> Made {
+    let aim = if rng.chance(70) { 0 } else { *rng.pick(&AIMS) };
+    let rich = halves::any(rng, aim);
+    laid_out(rng, Source::Halves, &rich)
+}
+
+/// The image of a family's model; now and then damaged.
+fn laid_out(rng: &mut Rng, source: Source, Rich { model, row }: &Rich) -> Made {
     let mut image = if rng.chance(70) { model.loose_image(rng) } else { model.plain_image() };
     let damaged = rng.chance(12);
     if damaged {
         damage(rng, &mut image);
     }
-    let source = if damaged { Source::Damaged } else { Source::Deep };
-    Made { source, image, row, rows: model.defs.len() as u32 }
+    let source = if damaged { Source::Damaged } else { source };
+    Made { source, image, row: *row, rows: model.defs.len() as u32 }
 }
 
 /// Texts that are not ASCII: 01 takes any bytes.
@@ -125,7 +150,7 @@ fn other_texts(rng: &mut Rng, model: &mut Model) {
 pub fn images(seed: u64) -> impl Iterator<Item = (Source, Vec<u8>)> {
     let edges: Vec<Vec<u8>> = edges().into_iter().map(|edge| edge.image).collect();
     let alikes = [End::OneByte, End::NoSum].into_iter().flat_map(|end| [false, true].map(|twice| alike(end, twice)));
-    let (mut maker, near) = (Maker::with_deep(seed), edges.clone());
+    let (mut maker, near) = (Maker::with_families(seed), edges.clone());
     let seeded = std::iter::repeat_with(move || {
         let (made, rng) = maker.make();
         let (mut copy, mut edge) = (made.image.clone(), rng.pick(&near).clone());

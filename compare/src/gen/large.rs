@@ -54,7 +54,7 @@ pub fn place(rng: &mut Rng, model: &mut Model, row: u32, expression: Words) {
 }
 
 /// A one-parameter alias: the name of it, and of its parameter within its target.
-fn alias(rng: &mut Rng, model: &mut Model, target: impl FnOnce(u32, u32) -> Words) -> u32 {
+pub fn alias(rng: &mut Rng, model: &mut Model, target: impl FnOnce(u32, u32) -> Words) -> u32 {
     let param = model.fresh_name(rng, NONE);
     let row = model.add_def(Def::Other);
     let name = model.fresh_name(rng, row);

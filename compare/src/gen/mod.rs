@@ -7,6 +7,7 @@ mod costly;
 mod damage;
 mod deep;
 mod edges;
+mod halves;
 mod images;
 mod large;
 mod model;
@@ -41,9 +42,9 @@ impl Cases {
         Cases { maker: Maker::new(seed), waiting: VecDeque::new() }
     }
 
-    /// The same cases, with some between them that nest deep.
-    pub fn with_deep(seed: u64) -> Self {
-        Cases { maker: Maker::with_deep(seed), waiting: VecDeque::new() }
+    /// The same cases, with some of every family between them.
+    pub fn with_families(seed: u64) -> Self {
+        Cases { maker: Maker::with_families(seed), waiting: VecDeque::new() }
     }
 
     fn refill(&mut self) {
@@ -104,7 +105,7 @@ pub fn edge_cases() -> impl Iterator<Item = Case> {
 
 /// Images as `edges` and `Cases` have them, each asked for some calls with lengths around every boundary.
 pub fn boundary_cases(seed: u64, calls: &[Call]) -> impl Iterator<Item = Case> + '_ {
-    let mut maker = Maker::with_deep(seed);
+    let mut maker = Maker::with_families(seed);
     let seeded = std::iter::repeat_with(move || maker.make().0).map(|made| (made.image, made.row));
     let images = edges().into_iter().map(|edge| (edge.image, edge.row)).chain(seeded);
     images.flat_map(move |(image, row)| {

@@ -99,18 +99,28 @@ impl Model {
         }
     }
 
+    /// The row of a text.
+    pub fn row_of(&self, text: &[u8]) -> Option<u32> {
+        self.names.iter().position(|name| name.text == text).map(|row| row as u32)
+    }
+
     /// The plainest image: everything by row, nothing shared, no gaps.
     pub fn plain_image(&self) -> Vec<u8> {
-        self.image(&mut Layout::Plain)
+        self.image(vec![], &mut Layout::Plain)
+    }
+
+    /// An image whose texts begin with these: what stands somewhere already is not written again.
+    pub fn shared_image(&self, texts: &[u8]) -> Vec<u8> {
+        self.image(texts.to_vec(), &mut Layout::Shared)
     }
 
     /// An image whose texts and types may be shared, with free bytes and words between, bodies in any order.
     pub fn loose_image(&self, rng: &mut Rng) -> Vec<u8> {
-        self.image(&mut Layout::Loose(rng))
+        self.image(vec![], &mut Layout::Loose(rng))
     }
 
-    fn image(&self, layout: &mut Layout) -> Vec<u8> {
-        let (mut texts, mut pool): (Vec<u8>, Words) = (Vec::new(), Vec::new());
+    fn image(&self, mut texts: Vec<u8>, layout: &mut Layout) -> Vec<u8> {
+        let mut pool = Words::new();
         let mut starts = vec![0; self.defs.len()];
         for row in layout.order(self.defs.len()) {
             layout.gap(&mut pool, NONE);
@@ -212,6 +222,7 @@ fn write_pairs(pairs: &[(u32, Words)], pool: &mut Words) {
 
 enum Layout<'a> {
     Plain,
+    Shared,
     Loose(&'a mut Rng),
 }
 
@@ -233,13 +244,16 @@ impl Layout<'_> {
         }
     }
 
-    /// Where a row's items stand: behind the others or, when loose, where they happen to stand already.
+    /// Where a row's items stand: behind the others or, when shared and at times when loose, where they happen to stand already.
     fn place<T: Copy + PartialEq>(&mut self, section: &mut Vec<T>, items: &[T], free: T) -> u32 {
-        if let Layout::Loose(rng) = self {
-            if rng.chance(50) {
-                if let Some(start) = section.windows(items.len().max(1)).position(|window| window.starts_with(items)) {
-                    return start as u32;
-                }
+        let shared = match self {
+            Layout::Plain => false,
+            Layout::Shared => true,
+            Layout::Loose(rng) => rng.chance(50),
+        };
+        if shared {
+            if let Some(start) = section.windows(items.len().max(1)).position(|window| window.starts_with(items)) {
+                return start as u32;
             }
         }
         self.gap(section, free);

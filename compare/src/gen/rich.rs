@@ -17,26 +17,40 @@ pub struct Rich {
 /// A model whose implementation's answer should be a number from 0 to 23 but 1 to 3, or anything (None). With bulk it
 /// has so many functions more.
 pub fn rich(rng: &mut Rng, aim: Option<u32>, bulk: usize) -> Rich {
-    let mut model = skeleton(rng);
-    let impls: Vec<u32> =
-        (0..model.defs.len() as u32).filter(|row| matches!(model.defs[*row as usize], Def::Impl(_))).collect();
-    let row = *rng.pick(&impls);
+    let mut rich = bare(rng);
     if bulk > 0 {
-        swell(rng, &mut model, row, bulk);
+        swell(rng, &mut rich.model, rich.row, bulk);
     }
+    aimed(rng, &mut rich, aim);
+    rich
+}
+
+/// A model whose implementations have no functions yet.
+pub fn bare(rng: &mut Rng) -> Rich {
+    let model = skeleton(rng);
+    let row = *rng.pick(&implementations(&model));
+    Rich { model, row }
+}
+
+fn implementations(model: &Model) -> Vec<u32> {
+    (0..model.defs.len() as u32).filter(|row| matches!(model.defs[*row as usize], Def::Impl(_))).collect()
+}
+
+/// Gives the implementations their functions, and one of them what its number needs.
+pub fn aimed(rng: &mut Rng, rich: &mut Rich, aim: Option<u32>) {
+    let Rich { model, row } = rich;
     match aim {
-        Some(7) => poison(rng, &mut model, row),
-        Some(8) => large::too_large(rng, &mut model, row),
-        Some(0) if rng.chance(6) => large::just_fits(rng, &mut model, row),
+        Some(7) => poison(rng, model, *row),
+        Some(8) => large::too_large(rng, model, *row),
+        Some(0) if rng.chance(6) => large::just_fits(rng, model, *row),
         _ => {}
     }
-    for other in impls {
-        implement(rng, &mut model, other, if other == row { aim } else { Some(0) });
+    for other in implementations(model) {
+        implement(rng, model, other, if other == *row { aim } else { Some(0) });
     }
     if let Some(number) = aim {
-        break_head(rng, &mut model, row, number);
+        break_head(rng, model, *row, number);
     }
-    Rich { model, row }
 }
 
 /// A model that should be accepted, with so many functions more, whose implementation stands in more rows until the image
@@ -167,7 +181,7 @@ fn any_name(rng: &mut Rng, model: &Model) -> u32 {
 }
 
 /// Aliases of every kind: a primitive, Void, Named to a row, past the rows or to poison, anything else.
-fn alias_type(rng: &mut Rng, model: &Model) -> Words {
+pub fn alias_type(rng: &mut Rng, model: &Model) -> Words {
     match rng.below(10) {
         0..=3 => vec![rng.below(13) as u32],
         4 => vec![VOID],

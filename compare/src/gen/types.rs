@@ -47,7 +47,8 @@ pub fn resolved(rng: &mut Rng, model: &Model, depth: usize) -> Words {
     }
 }
 
-fn container(rng: &mut Rng, mut part: impl FnMut(&mut Rng) -> Words) -> Words {
+/// A container of types, with as many parts as it has.
+pub fn container(rng: &mut Rng, mut part: impl FnMut(&mut Rng) -> Words) -> Words {
     let mut words = match rng.below(6) {
         // A length of words that look like poison, now and then.
         0 => vec![66, *rng.pick(&[0, 1, 2, 48]), if rng.chance(75) { 0 } else { NONE }],
@@ -83,8 +84,7 @@ pub struct Vocabulary {
 impl Vocabulary {
     pub fn of(model: &Model) -> Self {
         let mut words = Vocabulary { named: vec![], qualified: vec![], generic: vec![], poison: vec![] };
-        let rows = 0..model.names.len() as u32;
-        for name in rows.clone() {
+        for name in 0..model.names.len() as u32 {
             let found = looked_up(model, name).filter(|number| *number != NONE);
             let primitive = matches!(model.names[name as usize].alias.as_deref(), Some([0..=VOID]));
             if found.is_some() || primitive {
@@ -99,8 +99,7 @@ impl Vocabulary {
             }
             let text = &model.names[name as usize].text;
             for dot in (0..text.len()).filter(|at| text[*at] == b'.') {
-                let row_of = |half: &[u8]| rows.clone().find(|row| model.names[*row as usize].text == half);
-                if let (Some(left), Some(right)) = (row_of(&text[..dot]), row_of(&text[dot + 1..])) {
+                if let (Some(left), Some(right)) = (model.row_of(&text[..dot]), model.row_of(&text[dot + 1..])) {
                     if found.is_some() {
                         words.qualified.push((left, right));
                     } else {

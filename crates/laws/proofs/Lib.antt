@@ -12,4 +12,5 @@ pub mod Kept
 pub mod Substitution
 pub mod Schema
 pub mod MoreNames
+pub mod Qualified
 pub mod Laws

@@ -4,4 +4,5 @@ pub mod Runs
 pub mod DefinitionRuns
 pub mod GoodSchema
 pub mod Substitution
+pub mod Qualified
 pub mod Laws

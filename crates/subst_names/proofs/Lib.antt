@@ -1,3 +1,4 @@
 pub mod Codes
 pub mod NamesLaws
+pub mod OneRow
 pub mod GenericLaws

@@ -1,6 +1,7 @@
 //! Labelled images at the edges of document 01: every bound, code and flag, the cases of "At the edges", the trailer.
 
 mod bodies;
+mod halves;
 mod image;
 mod lone;
 mod reported;
@@ -43,6 +44,7 @@ pub fn edges() -> Vec<Edge> {
     edges.deep_cycles();
     edges.reported();
     edges.stacks();
+    edges.halves();
     edges.0
 }
 

@@ -2,10 +2,10 @@
 
 use super::{literal, Edges, BOOL, I64, U64};
 use crate::gen::deep::{self, Around, CYCLE, DROPPED};
-use crate::gen::model::{Model, Words};
+use crate::gen::model::{Model, Words, NONE};
 use crate::gen::nested::{nested, placed, Step, LEVELS, PLACES};
 use crate::gen::rng::Rng;
-use crate::gen::tiny::{tiny, IMPL, P, T};
+use crate::gen::tiny::{tiny, IMPL, P, T, TRAIT};
 
 impl Edges {
     pub(super) fn stacks(&mut self) {
@@ -13,6 +13,7 @@ impl Edges {
         self.filled_cycles();
         self.endings();
         self.values();
+        self.qualified_leaves();
     }
 
     fn substituted(&mut self, label: String, make: impl FnOnce(&mut Rng, &mut Model) -> Words) {
@@ -76,8 +77,23 @@ impl Edges {
             }
         }
         for visits in [1_023, 1_024, 1_025] {
-            let make = |rng: &mut Rng, model: &mut Model| deep::ending_in_seconds(rng, model, visits);
+            let make = |rng: &mut Rng, model: &mut Model| deep::ending_in_seconds(rng, model, visits, None);
             self.substituted(format!("stack-ends-in-seconds-{visits}"), make);
+        }
+    }
+
+    /// The deepest of both kinds with a qualified name, as the first part of the cycle's Map and as the innermost leaf, by halves of
+    /// one byte and by the longest: the images are alike but for these texts.
+    fn qualified_leaves(&mut self) {
+        for length in [1, 127] {
+            self.substituted(format!("stack-cycle-second-qualified-{length}"), |rng, model| {
+                let leaf = qualified(model, length);
+                deep::cycle_behind(rng, model, &leaf)
+            });
+            self.substituted(format!("stack-ends-in-seconds-1024-qualified-{length}"), |rng, model| {
+                let leaf = qualified(model, length);
+                deep::ending_in_seconds(rng, model, 1_024, Some(&leaf))
+            });
         }
     }
 
@@ -108,6 +124,37 @@ impl Edges {
     fn placed(&mut self, label: &str, ty: u32, value: &[u32]) {
         for place in PLACES {
             self.rich(format!("stack-{place}-{label}"), &placed(place, ty, value));
+        }
+    }
+}
+
+/// A qualified name whose halves have so many bytes, and its row.
+fn qualified(model: &mut Model, length: usize) -> Words {
+    let [left, right] = ["L", "R"].map(|letter| letter.repeat(length));
+    let joined = format!("{left}.{right}");
+    let halves = [left, right].map(|half| model.add_name(half.into(), NONE));
+    model.add_name(joined.into(), TRAIT);
+    [&[49], halves.as_slice()].concat()
+}
+
+#[cfg(test)]
+mod tests {
+    use crate::case::Case;
+    use crate::gen::edges;
+    use crate::judge::Judge;
+    use crate::second::{Call, DETAIL_BYTES};
+
+    #[test]
+    fn a_qualified_leaf_leaves_number_and_visits() {
+        let edges = edges();
+        for (label, expected) in [("stack-cycle-second", (8, 0)), ("stack-ends-in-seconds-1024", (0, 1_024))] {
+            for leaf in ["", "-qualified-1", "-qualified-127"] {
+                let edge = edges.iter().find(|edge| edge.label == format!("{label}{leaf}")).unwrap();
+                let (call, image) = (Call::ProjectImpl, edge.image.as_slice().into());
+                let case = Case { call, image, row: edge.row, output: 4_096, detail: DETAIL_BYTES };
+                let answer = Judge::default().judge(&case).ok().unwrap().whole.answer;
+                assert_eq!((answer.number, answer.visits), expected, "{label}{leaf}");
+            }
         }
     }
 }

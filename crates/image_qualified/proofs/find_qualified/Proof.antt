@@ -1,4 +1,4 @@
-use mathlib.Core.Path.{_≡_, sym, ap, ap₂, _∙_}
+use mathlib.Core.Path.{_≡_, sym, ap₂, _∙_}
 use mathlib.Core.Bool.{Bool}
 use mathlib.Core.List.{List, _∷_, _++_}
 use Prim.Native.Nat.{ℕ, _-_, _≤_}
@@ -34,25 +34,23 @@ whole c =
     ap₂ (λ (x y : List ℕ). first-from (has (now (a .image)) (a .names-start) x y) (a .names) 0) (c .before .text-of .ensures) (c .text-of2 .ensures)
 
 -- what the row's test says
-tested : (c : tie.After-is-joined Inv-loop μ-loop)
-    → let l = c .before .before .before in
+tested : (c : tie.After-is-joined-row Inv-loop μ-loop)
+    → let l = c .before .before in
     let d = l .before in
-    c .is-joined .result
+    c .is-joined-row .result
     ≡ has (now (d .before .before .before .args .image)) (d .before .before .before .args .names-start) (now (d .before .text-of .result)) (now (d .text-of2 .result)) (l .loop .i)
-tested c =
-    let d = c .before .before .before .before in
-    c .is-joined .ensures ∙ ap (same (now (d .before .text-of .result) ++ 46 ∷ now (d .text-of2 .result))) (c .before .text-of3 .ensures)
+tested c = c .is-joined-row .ensures
 
 returns : tie.Need-returns Inv-loop μ-loop
 returns c =
-    let l = c .before .before .before .before in
+    let l = c .before .before .before in
     sym (first-hit _ (l .before .before .before .before .args .names) (l .loop .i) (omega arith) (sym (tested (c .before)) ∙ c .if1 .taken))
     ∙ l .loop .inv .1
     ∙ whole (l .before)
 
 loop-again : tie.Need-loop-again Inv-loop μ-loop
 loop-again c =
-    let l = c .before .before .before .before in
+    let l = c .before .before .before in
     (search needs, first-miss _ (l .before .before .before .before .args .names) (l .loop .i) (omega arith) (sym (tested (c .before)) ∙ c .if1 .left) ∙ l .loop .inv .1)
 
 returns-2 : tie.Need-returns-2 Inv-loop μ-loop
@@ -70,7 +68,6 @@ find-qualified-spec =
     (λ c κs. search needs)
     (λ c. (search needs, first-start _ _))
     (λ c. search needs)
-    (λ c κs. search needs)
     (λ c κs. search needs)
     returns
     (λ c. search needs)

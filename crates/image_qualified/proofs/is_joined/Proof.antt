@@ -1,13 +1,10 @@
-use mathlib.Core.Path.{sym, ap, ap₂, _∙_}
-use mathlib.Core.Bool.{_&&_}
-use Prim.Native.Nat.{_+_, _-_}
+use mathlib.Core.Path.{sym, _∙_}
 use native.Mathlib.Omega.{arith}
 use denote.Ref.{now}
-use lib.ListN.{length, drop, length-drop}
-use lib.Seq.{length-take-le, take-all}
+use lib.Seq.{length-take-le}
 use borrow.Author.Needs.{needs}
-use Rattle.rules.specs.Words.{same}
-use Rattle.image_qualified.proofs.Joined.{joined-long, joined-dotless, joined-halves}
+use borrow.Author.Tests.{not-true, not-false}
+use Rattle.image_qualified.proofs.Joined.{joined-long, joined-dotless, joined-other, joined-first}
 use Rattle.image_qualified.proofs.is_joined.Statement.{statement}
 use Rattle.image_qualified.proofs.is_joined.Tie as tie
 
@@ -19,11 +16,14 @@ returns-2 c = let a = c .before .before .before .before .before .before .args in
 
 returns-3 : tie.Need-returns-3
 returns-3 c =
-    let a = c .before .before .before .before .before .before .before .before .before .before .args in
-    let k = length (now (a .namespace)) in
-    let end = drop (k + 1) (now (a .s)) in
-    ap₂ _&&_ (c .before .before .same-text .ensures) (c .same-text2 .ensures ∙ ap (same (now (a .name))) (take-all (length (now (a .s)) - (k + 1)) end (omega (arith, length-drop (k + 1) (now (a .s))))))
-    ∙ joined-halves (now (a .namespace)) (now (a .name)) (now (a .s)) (omega arith) (omega arith)
+    let a = c .before .before .before .before .before .before .before .before .before .args in
+    sym (joined-other (now (a .namespace)) (now (a .name)) (now (a .s)) (sym (c .before .same-text .ensures) ∙ not-true _ (c .if3 .taken)))
+
+returns-4 : tie.Need-returns-4
+returns-4 c =
+    let a = c .before .before .before .before .before .before .before .before .before .before .before .args in
+    c .same-text2 .ensures
+    ∙ sym (joined-first (now (a .namespace)) (now (a .name)) (now (a .s)) (omega arith) (omega arith) (sym (c .before .before .before .same-text .ensures) ∙ not-false _ (c .before .before .if3 .left)))
 
 pub is-joined-spec : {M : Type 1} → statement M
 is-joined-spec =
@@ -35,10 +35,10 @@ is-joined-spec =
     (λ c. search needs)
     returns-2
     (λ c. search needs)
+    (λ c. search needs)
+    (λ c. search needs)
+    (λ c κs. search needs)
+    returns-3
     (λ c. sym (length-take-le _ _ (omega arith)))
     (λ c κs. search needs)
-    (λ c. search needs)
-    (λ c. search needs)
-    (λ c. search needs)
-    (λ c κs. search needs)
-    returns-3)
+    returns-4)
