@@ -14,7 +14,7 @@ use Rattle.rules.specs.Image.{new-text, different-texts}
 use Rattle.rules.specs.Substitute.{find-text, definition-of, lookup, lookup-qualified}
 use Rattle.rules.proofs.Clash.{clash}
 use Rattle.laws.specs.GoodSchema.{GoodName}
-use Rattle.laws.specs.Qualified.{Has, Join, OneName, StandsForIts, NoName, TooLong, NoHalf, TextAlone}
+use Rattle.laws.specs.Qualified.{Has, Join, OneName, StandsForThatName, NoName, TooLong, NoHalf, TextAlone}
 use Rattle.laws.proofs.Each.{at-all}
 use Rattle.laws.proofs.Same.{same-self, same-true}
 use Rattle.laws.proofs.Schema.{readable-good}
@@ -85,9 +85,9 @@ by-text : (schema : CompiledSchema) (t : List ℕ) (s x : ℕ) → Join schema s
 unfolding lookup-qualified then
 by-text schema t s x j = rw (j .at-namespace, j .at-name) (ap (λ (u : List ℕ). then (find-text u (schema .names)) definition-of) (j .text))
 
-pub stands-for-its : StandsForIts
+pub stands-for-that-name : StandsForThatName
 unfolding lookup
-stands-for-its image schema r t s x i j h =
+stands-for-that-name image schema r t s x i j h =
     by-text schema t s x j
     ∙ ap (λ (o : Option Name). then o definition-of) (found t (schema .names) (readable-good image schema r .1 .different) i (h .name) (h .at) (h .text) ∙ sym (h .at))
 

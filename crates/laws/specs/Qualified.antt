@@ -28,8 +28,8 @@ abbrev pub OneName : Type 0
 OneName = (image : List ℕ) (schema : CompiledSchema) → readable image ≡ some schema → (t : List ℕ) (i j : ℕ) → Has schema i t → Has schema j t → i ≡ j
 
 -- what the name with the joined text stands for, the qualified name does
-abbrev pub StandsForIts : Type 0
-StandsForIts =
+abbrev pub StandsForThatName : Type 0
+StandsForThatName =
     (image : List ℕ) (schema : CompiledSchema) → readable image ≡ some schema
     → (t : List ℕ) (s x i : ℕ) → Join schema s x t → Has schema i t → lookup-qualified schema s x ≡ lookup schema i
 
