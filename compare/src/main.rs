@@ -45,6 +45,7 @@ usage: compare/run SUBCOMMAND [OPTION ..]
                                    times of the library's calls beside the Rust's, with and without building its
                                    schema; prints tables, and writes the figures
   count   [--seed S] [--to FILE]   the same in instructions, by callgrind
+  count   --rows 1                 instructions for a row that a qualified look-up passes over, by what the row is
   profile [--seed S] [--functions 1]
                                    where the library's instructions go, by crate and by function, in per cent
   ratios  --from FILE --beside FILE
@@ -105,7 +106,7 @@ fn command(words: &[String]) -> Result<(), Failure> {
         "readable" => readable(&options(&["seed", "cases"])?),
         "library" => beside(&options(&["seed", "cases"])?),
         "speed" => speed(&options(&["seed", "rounds", "to"])?),
-        "count" => count(&options(&["seed", "to"])?),
+        "count" => count(&options(&["seed", "to", "rows"])?),
         "profile" => profile(&options(&["seed", "functions"])?),
         "ratios" => ratios(&options(&["from", "beside"])?),
         "plot" => plot(&options(&["from", "to"])?),
@@ -165,12 +166,15 @@ fn speed(options: &Options) -> Result<(), Failure> {
 }
 
 fn count(options: &Options) -> Result<(), Failure> {
-    figures("instructions", speed::counts(options.number("seed", 1)?, &calls()?)?, options)
+    if options.number("rows", 0)? > 0 {
+        return say(&speed::passed(&speed::counts(speed::PASSED, &calls()?)?));
+    }
+    let seed: u64 = options.number("seed", 1)?;
+    figures("instructions", speed::counts(&seed.to_string(), &calls()?)?, options)
 }
 
-fn count_here(seed: &str) -> Result<(), Failure> {
-    speed::count_here(seed.parse().map_err(|_| "a seed is a number".to_string())?, &calls()?);
-    Ok(())
+fn count_here(word: &str) -> Result<(), Failure> {
+    Ok(speed::count_here(word, &calls()?)?)
 }
 
 /// Prints figures as tables, and writes them where they are asked for.

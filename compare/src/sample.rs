@@ -164,7 +164,7 @@ fn chosen(behind: &[Edge]) -> Result<Vec<(&Edge, &'static [Call])>, String> {
         chosen.push((labelled(label)?, calls));
     }
     for edge in behind.iter().filter(|edge| edge.label.starts_with(HALVES)) {
-        let twice = !edge.label.ends_with("-nothing") && edge.image.len() < 2_000;
+        let twice = !edge.label.ends_with(gen::NOTHING) && edge.image.len() < 2_000;
         chosen.push((edge, if twice { TWICE } else { ONCE }));
     }
     Ok(chosen)

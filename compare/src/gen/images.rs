@@ -46,7 +46,7 @@ struct Family {
     /// So many of a hundred.
     share: usize,
     make: fn(&mut Rng) -> Made,
-    /// What makes its seed of the others'.
+    /// What makes its seed of the others': another for each family, and not 0.
     mask: u64,
 }
 

@@ -12,6 +12,7 @@ mod images;
 mod large;
 mod model;
 mod nested;
+mod passed;
 mod rich;
 mod rng;
 mod tiny;
@@ -26,9 +27,10 @@ pub use alike::{alike, End};
 pub use costly::{costly, KINDS as COSTLY, ROW as COSTLY_ROW};
 #[cfg(test)]
 pub use edges::whole_case;
-pub use edges::{edges, Edge};
+pub use edges::{edges, Edge, NOTHING};
 use images::Maker;
 pub use images::{images, Source};
+pub use passed::{passed, Passed, ROW as PASSED_ROW, ROWS as PASSED_ROWS};
 use rng::Rng;
 
 /// An endless supply of cases from one seed.

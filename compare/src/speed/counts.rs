@@ -5,7 +5,7 @@ use std::path::{Path, PathBuf};
 use std::process::{Command, Stdio};
 
 use super::figures::Figure;
-use super::{buffers, callgrind, groups, SIDES};
+use super::{buffers, callgrind, named, SIDES};
 use crate::second::Call;
 
 /// The hidden subcommand.
@@ -15,22 +15,22 @@ pub const SUBCOMMAND: &str = "count-here";
 const LABEL: &str = "desc: Trigger: Client Request: ";
 const TOTAL: &str = "totals: ";
 
-/// Instructions a call.
-pub fn counts(seed: u64, calls: &[Call]) -> Result<Vec<Figure>, String> {
+/// Instructions a call, of the groups that a word names: a seed, or `PASSED`.
+pub fn counts(word: &str, calls: &[Call]) -> Result<Vec<Figure>, String> {
     let program = std::env::current_exe().map_err(|error| error.to_string())?;
     let folder = fresh_folder(&program)?;
     let status = Command::new("valgrind")
         .args(["--tool=callgrind", "--instr-atstart=no", "--dump-line=no"])
         .arg(format!("--callgrind-out-file={}", folder.join("part").display()))
         .arg(&program)
-        .args([SUBCOMMAND, &seed.to_string()])
+        .args([SUBCOMMAND, word])
         .stderr(Stdio::null())
         .status()
         .map_err(|error| format!("cannot start valgrind: {error}"))?;
     if !status.success() {
         return Err(format!("valgrind ends with {status}"));
     }
-    let groups = groups(seed, calls);
+    let groups = named(word, calls)?;
     let mut parts = vec![None; SIDES * groups.len()];
     for entry in fs::read_dir(&folder).map_err(|error| error.to_string())? {
         let text = entry.and_then(|entry| fs::read_to_string(entry.path())).map_err(|error| error.to_string())?;
@@ -56,12 +56,13 @@ fn fresh_folder(program: &Path) -> Result<PathBuf, String> {
 }
 
 /// The child: a part for each side of each group, asked once before so that nothing is done for the first time.
-pub fn count_here(seed: u64, calls: &[Call]) {
+pub fn count_here(word: &str, calls: &[Call]) -> Result<(), String> {
     let (mut output, mut detail) = buffers();
-    for (place, group) in groups(seed, calls).iter().enumerate() {
+    for (place, group) in named(word, calls)?.iter().enumerate() {
         for side in 0..SIDES {
             group.ask(side, &mut output, &mut detail);
             callgrind::counted(SIDES * place + side, || group.ask(side, &mut output, &mut detail));
         }
     }
+    Ok(())
 }

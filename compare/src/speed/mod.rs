@@ -3,6 +3,7 @@
 mod callgrind;
 mod counts;
 mod figures;
+mod passed;
 mod plot;
 mod profile;
 mod ratios;
@@ -18,6 +19,7 @@ use crate::library;
 use crate::second::{Call, DETAIL_BYTES};
 pub use counts::{count_here, counts, SUBCOMMAND as COUNT_HERE};
 pub use figures::{from_csv, tables, to_csv, Figure};
+pub use passed::{table as passed, WORD as PASSED};
 pub use plot::plot;
 pub use profile::profile;
 pub use ratios::ratios;
@@ -55,6 +57,14 @@ struct Group {
     call: Call,
     kind: &'static str,
     asked: Vec<Asked>,
+}
+
+/// What is counted: by a seed what is measured in times too, or rows that are passed over.
+fn named(word: &str, calls: &[Call]) -> Result<Vec<Group>, String> {
+    match word {
+        PASSED => Ok(passed::groups()),
+        seed => Ok(groups(seed.parse().map_err(|_| "a seed is a number".to_string())?, calls)),
+    }
 }
 
 /// Typical images of each size for each call, then costly ones of each kind for `project_impl`.

@@ -33,7 +33,7 @@ module _ (m n s : List ℕ) where
   pub joined-dotless : (getD s (length m) 0 ≡ 46 → ⊥) → same (m ++ 46 ∷ n) s ≡ false
   joined-dotless d = same-apart (m ++ 46 ∷ n) s (length m) (λ e. d (sym e ∙ getD-append-seam m 46 n 0))
 
-  -- behind the dot as many bytes as the second half has
+  -- behind the dot as many bytes as the second half has, counted as the slice from there to the end counts them
   abbrev behind : List ℕ
   behind = take (length m + 1 + length n - (length m + 1)) (drop (length m + 1) s)
 

@@ -12,7 +12,7 @@ ghost use Rattle.rules.specs.Words.{same};
 ghost use Rattle.image_texts.specs.Rows.{row-text, find-row, qualified-text};
 
 // Whether a text is another, a dot, and a third: the halves are matched where they stand.
-pub fn is_joined(s: &[u8], namespace: &[u8], name: &[u8]) -> bool
+fn is_joined(s: &[u8], namespace: &[u8], name: &[u8]) -> bool
     ensures { λ r. ⌜ r ≡ same (now (namespace .entry) ++ 46 ∷ now (name .entry)) (now (s .entry)) ⌝ }
 {
     let dot = namespace.len();

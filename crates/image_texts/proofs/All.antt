@@ -5,7 +5,6 @@ use Prim.Native.Nat.{ℕ, zero, suc, _+_, _-_, _<_, _≤_}
 use native.Mathlib.Omega.{arith}
 use native.Mathlib.Numerals.{add-one}
 use native.Mathlib.Nat.{add-zero, add-suc}
-use Rattle.rules.proofs.Clash.{clash}
 use Rattle.image_texts.specs.All.{all-below}
 
 and-false : (a : Bool) → a && false ≡ false
@@ -56,13 +55,6 @@ module _ (p : ℕ → Bool) where
   pub all-true : (n : ℕ) → ((i : ℕ) → i < n → p i ≡ true) → all-below n p ≡ true
   all-true zero h = all-none
   all-true (suc n) h = rw (← add-one) (all-more n (all-true n (λ i l. h i (omega arith))) (h n (omega arith)))
-
-  pub all-each : (n : ℕ) → all-below n p ≡ true → (i : ℕ) → i < n → p i ≡ true
-  all-each n e i h = go (p i) refl
-    where
-      go : (b : Bool) → p i ≡ b → p i ≡ true
-      go true q = q
-      go false q = let f : all-below n p ≡ false = all-false i n h q in clash (cc)
 
   -- and what one shows at its end
   pub all-done : (i n : ℕ) → i ≤ n → n ≤ i → all-below i p ≡ true → true ≡ all-below n p

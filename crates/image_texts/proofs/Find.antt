@@ -27,14 +27,6 @@ module _ (p : ℕ → Bool) where
   unfolding first-from
   first-none n i h = let m : n - i ≡ 0 = omega arith in rw m
 
-  -- a number that passes, behind none that does
-  pub first-at : (n i : ℕ) → i < n → ((j : ℕ) → j < i → p j ≡ false) → p i ≡ true → first-from p n 0 ≡ i
-  first-at n i h before at = sym (passed i (omega arith)) ∙ first-hit n i h at
-    where
-      passed : (k : ℕ) → k ≤ i → first-from p (n - k) k ≡ first-from p n 0
-      passed zero l = first-start n
-      passed (suc k) l = rw (← add-one) (first-miss n k (omega arith) (before k (omega arith)) ∙ passed k (omega arith))
-
   -- what is found is one of the numbers that were tried, or NONE
   pub first-below : (left i : ℕ) → (first-from p left i ≡ NONE → ⊥) → first-from p left i < i + left
   unfolding first-from

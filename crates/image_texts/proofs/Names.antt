@@ -11,12 +11,10 @@ use Rattle.rules.specs.Syntax.{Name, CompiledSchema}
 use Rattle.rules.specs.Options.{then}
 use Rattle.rules.specs.Image.{new-text, different-texts}
 use Rattle.rules.specs.Substitute.{find-text, definition-of, lookup, lookup-qualified}
-use Rattle.rules.proofs.Clash.{clash}
-use Rattle.laws.proofs.Same.{same-self, same-false}
 use Rattle.image_texts.specs.All.{all-below}
-use Rattle.image_texts.proofs.All.{all-each, all-front, all-same, all-both}
+use Rattle.image_texts.proofs.All.{all-front, all-same, all-both}
 use Rattle.image_texts.specs.Rows.{row-text, new-row, rows-differ, first-from, find-row, qualified-text}
-use Rattle.image_texts.proofs.Find.{first-at, first-below}
+use Rattle.image_texts.proofs.Find.{first-below}
 
 -- the i-th name's text is the i-th of these
 abbrev pub Told : (ℕ → List ℕ) → List Name → Type 0
@@ -112,20 +110,6 @@ find-rule image names-start ns t h few = find-told (row-text image names-start) 
 pub find-below : (image : List ℕ) (names-start names : ℕ) (t : List ℕ) → (find-row image names-start names t ≡ NONE → ⊥) → find-row image names-start names t < names
 unfolding find-row
 find-below image names-start names t h = omega (arith, first-below (λ i. same t (row-text image names-start i)) names 0 h)
-
--- texts that are not the same, asked either way
-apart : (x y : List ℕ) → not (same x y) ≡ true → same y x ≡ false
-apart x y e = same-false y x (λ q. clash (let s : same x y ≡ true = ap (same x) q ∙ same-self x in cc))
-
--- of rows that all differ at most one has a text: the one that has it is the one that is found
-pub one-row : (image : List ℕ) (names-start names : ℕ) → rows-differ image names-start names ≡ true
-    → (t : List ℕ) (i : ℕ) → i < names → row-text image names-start i ≡ t → find-row image names-start names t ≡ i
-unfolding rows-differ new-row find-row
-one-row image names-start names differ t i h at =
-    let f : ℕ → List ℕ = row-text image names-start in
-    first-at (λ j. same t (f j)) names i h
-    (λ j l. ap (λ (x : List ℕ). same x (f j)) (sym at) ∙ apart (f j) (f i) (all-each (λ j. not (same (f j) (f i))) i (all-each (new-row image names-start) names differ i h) j l))
-    (ap (same t) at ∙ same-self t)
 
 module _ (image : List ℕ) (names-start : ℕ) (schema : CompiledSchema) (h : InRows image names-start (schema .names)) (few : length (schema .names) ≤ NONE) where
   -- a qualified name's definition is that of the row found

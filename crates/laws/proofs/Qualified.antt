@@ -1,7 +1,7 @@
--- A qualified name stands for what the one name does that has its text.
+-- A qualified name's definition, or Named alias, is that of the one name which has its text.
 use Prim.Native.Nat.{ℕ, zero, suc, _≤_}
 use mathlib.Core.Path.{_≡_, refl, sym, ap, _∙_}
-use mathlib.Core.Logic.{_⊎_, inl, inr}
+use mathlib.Core.Logic.{inl, inr}
 use mathlib.Core.Bool.{Bool, true, false}
 use mathlib.Core.List.{List, [], _∷_, _++_}
 use mathlib.Core.Option.{Option, none, some}
@@ -14,7 +14,7 @@ use Rattle.rules.specs.Image.{new-text, different-texts}
 use Rattle.rules.specs.Substitute.{find-text, definition-of, lookup, lookup-qualified}
 use Rattle.rules.proofs.Clash.{clash}
 use Rattle.laws.specs.GoodSchema.{GoodName}
-use Rattle.laws.specs.Qualified.{Has, Join, OneName, StandsForThatName, NoName, TooLong, NoHalf, TextAlone}
+use Rattle.laws.specs.Qualified.{Join, OneName, DefinedAsThatName, NoName, TooLong, NoHalf, TextAlone}
 use Rattle.laws.proofs.Each.{at-all}
 use Rattle.laws.proofs.Same.{same-self, same-true}
 use Rattle.laws.proofs.Schema.{readable-good}
@@ -52,7 +52,7 @@ module _ (t : List ℕ) where
   one (n ∷ ns) e (suc i) (suc j) v w a b h k = ap suc (one ns (differ n ns e .1) i j v w a b h k)
 
   -- and that one is found
-  found : (ns : List Name) → different-texts ns ≡ true → (i : ℕ) (w : Name) → getElem? ns i ≡ some w → w .text ≡ t → find-text t ns ≡ some w
+  pub found : (ns : List Name) → different-texts ns ≡ true → (i : ℕ) (w : Name) → getElem? ns i ≡ some w → w .text ≡ t → find-text t ns ≡ some w
   unfolding find-text
   found [] e i w at h = clash (cc)
   found (n ∷ ns) e i w at h = go (same t (n .text)) refl i at (found ns (differ n ns e .1))
@@ -76,7 +76,7 @@ module _ (t : List ℕ) where
       go true q e ih = let s : t ≡ n .text = same-true t (n .text) q in (0, e, cc)
       go false q e ih = let h = ih e in (suc (h .0), h .1, h .2)
 
--- ---- what a qualified name stands for
+-- ---- the definition of a qualified name
 pub one-name : OneName
 one-name image schema r t i j h k = one t (schema .names) (readable-good image schema r .1 .different) i j (h .name) (k .name) (h .at) (k .at) (h .text) (k .text)
 
@@ -85,9 +85,9 @@ by-text : (schema : CompiledSchema) (t : List ℕ) (s x : ℕ) → Join schema s
 unfolding lookup-qualified then
 by-text schema t s x j = rw (j .at-namespace, j .at-name) (ap (λ (u : List ℕ). then (find-text u (schema .names)) definition-of) (j .text))
 
-pub stands-for-that-name : StandsForThatName
+pub defined-as-that-name : DefinedAsThatName
 unfolding lookup
-stands-for-that-name image schema r t s x i j h =
+defined-as-that-name image schema r t s x i j h =
     by-text schema t s x j
     ∙ ap (λ (o : Option Name). then o definition-of) (found t (schema .names) (readable-good image schema r .1 .different) i (h .name) (h .at) (h .text) ∙ sym (h .at))
 

@@ -1,4 +1,4 @@
--- What a qualified name stands for: what the one name does that has its text. proofs/Qualified.antt proves each statement.
+-- A qualified name's definition, or Named alias, is that of the one name which has its text. proofs/Qualified.antt proves each statement.
 use Prim.Native.Nat.{ℕ, _<_}
 use mathlib.Core.Path.{_≡_}
 use mathlib.Core.Logic.{_⊎_}
@@ -27,9 +27,9 @@ pub record Join (schema : CompiledSchema) (s x : ℕ) (t : List ℕ) : Type 0 wh
 abbrev pub OneName : Type 0
 OneName = (image : List ℕ) (schema : CompiledSchema) → readable image ≡ some schema → (t : List ℕ) (i j : ℕ) → Has schema i t → Has schema j t → i ≡ j
 
--- what the name with the joined text stands for, the qualified name does
-abbrev pub StandsForThatName : Type 0
-StandsForThatName =
+-- the definition or the Named alias of the name with the joined text, where there is such a name
+abbrev pub DefinedAsThatName : Type 0
+DefinedAsThatName =
     (image : List ℕ) (schema : CompiledSchema) → readable image ≡ some schema
     → (t : List ℕ) (s x i : ℕ) → Join schema s x t → Has schema i t → lookup-qualified schema s x ≡ lookup schema i
 

@@ -1,13 +1,26 @@
--- The rows of a readable image all differ: at most one has a text.
-use mathlib.Core.Path.{sym, ap, _∙_}
+-- The names of a readable image all differ: the row that has a text is the one that is found.
+use Prim.Native.Nat.{ℕ, _≤_}
+use mathlib.Core.Path.{_≡_, sym, ap, _∙_}
+use mathlib.Core.Option.{some}
+use native.Mathlib.Omega.{arith}
+use lib.ListN.{length, getElem?}
+use Rattle.rules.specs.Words.{NONE}
 use Rattle.laws.proofs.Schema.{readable-good}
-use Rattle.image_texts.specs.Rows.{rows-differ}
-use Rattle.image_texts.proofs.Names as names
+use Rattle.laws.proofs.Qualified.{found, one-name}
+use Rattle.image_texts.specs.Rows.{row-text, find-row}
+use Rattle.image_texts.proofs.Names.{find-rule}
 use Rattle.subst_names.specs.OneRow.{OneRow}
-use Rattle.subst_names.proofs.NamesLaws.{in-rows}
+use Rattle.subst_names.proofs.NamesLaws.{there, in-rows}
 
 pub one-row : OneRow
-one-row image l s cut o =
+one-row image l s cut o t i h e =
     let start = l .names .words .start in
-    names.one-row image start (l .names .rows)
-    (ap (rows-differ image start) (sym (o .names)) ∙ sym (names.differ-rule image start (s .names) (in-rows cut o)) ∙ readable-good image s (o .read) .1 .different)
+    let few : length (s .names) ≤ NONE = omega (arith, o .names, o .inside .few-names) in
+    let n = there (s .names) i (omega (arith, o .names)) in
+    let text : n .0 .text ≡ t = in-rows cut o i (n .0) (n .1) ∙ e in
+    let j : ℕ = find-row image start (l .names .rows) t in
+    let at : getElem? (s .names) j ≡ some (n .0) =
+    ap (λ (m : ℕ). getElem? (s .names) (find-row image start m t)) (sym (o .names))
+    ∙ sym (find-rule image start (s .names) t (in-rows cut o) few)
+    ∙ found t (s .names) (readable-good image s (o .read) .1 .different) i (n .0) (n .1) text in
+    one-name image s (o .read) t j i (record { name = n .0; at = at; text = text }) (record { name = n .0; at = n .1; text = text })

@@ -1,4 +1,4 @@
--- Of the rows that a qualified name is looked for in, at most one has its text. proofs/OneRow.antt proves it.
+-- Of the rows that a qualified name is looked for in, at most one has its text: the one that is found. proofs/OneRow.antt proves it.
 use Prim.Native.Nat.{ℕ, _<_}
 use mathlib.Core.Path.{_≡_}
 use mathlib.Core.List.{List}
@@ -8,7 +8,7 @@ use Rattle.image_layout.specs.declared.Layout.{Layout}
 use Rattle.image_layout.specs.Rows.{Cut}
 use Rattle.image_layout.specs.Open.{Open}
 
--- in a readable image the row that has a text is the row that is found
+-- whichever row of a readable image has a text, that row is found: so no other has it
 abbrev pub OneRow : Type 0
 OneRow =
     (image : List ℕ) (l : Layout) (s : CompiledSchema) → Cut image l → Open image l s

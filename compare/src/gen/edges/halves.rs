@@ -10,7 +10,7 @@ use crate::gen::tiny::{with_body, F, IMPL, M, MESSAGE, P, TRAIT, X};
 const OTHER: u32 = IMPL + 1;
 
 /// What a label of an edge that finds no row ends with.
-const NOTHING: &str = "-nothing";
+pub const NOTHING: &str = "-nothing";
 
 impl Edges {
     pub(super) fn halves(&mut self) {

@@ -9,6 +9,7 @@ mod stack;
 mod traits;
 
 use super::bounds::BOUNDS;
+pub use halves::NOTHING;
 use super::model::{assemble, Words, NONE};
 use super::rich::{implement, Rich};
 use super::rng::Rng;

@@ -83,7 +83,7 @@ impl Edges {
     }
 
     /// The deepest of both kinds with a qualified name, as the first part of the cycle's Map and as the innermost leaf, by halves of
-    /// one byte and by the longest: the images are alike but for these texts.
+    /// one byte and by the longest: the images are alike but for these texts and where they lie.
     fn qualified_leaves(&mut self) {
         for length in [1, 127] {
             self.substituted(format!("stack-cycle-second-qualified-{length}"), |rng, model| {

@@ -33,25 +33,17 @@ whole c =
     let a = c .before .before .before .args in
     ap₂ (λ (x y : List ℕ). first-from (has (now (a .image)) (a .names-start) x y) (a .names) 0) (c .before .text-of .ensures) (c .text-of2 .ensures)
 
--- what the row's test says
-tested : (c : tie.After-is-joined-row Inv-loop μ-loop)
-    → let l = c .before .before in
-    let d = l .before in
-    c .is-joined-row .result
-    ≡ has (now (d .before .before .before .args .image)) (d .before .before .before .args .names-start) (now (d .before .text-of .result)) (now (d .text-of2 .result)) (l .loop .i)
-tested c = c .is-joined-row .ensures
-
 returns : tie.Need-returns Inv-loop μ-loop
 returns c =
     let l = c .before .before .before in
-    sym (first-hit _ (l .before .before .before .before .args .names) (l .loop .i) (omega arith) (sym (tested (c .before)) ∙ c .if1 .taken))
+    sym (first-hit _ (l .before .before .before .before .args .names) (l .loop .i) (omega arith) (sym (c .before .is-joined-row .ensures) ∙ c .if1 .taken))
     ∙ l .loop .inv .1
     ∙ whole (l .before)
 
 loop-again : tie.Need-loop-again Inv-loop μ-loop
 loop-again c =
     let l = c .before .before .before in
-    (search needs, first-miss _ (l .before .before .before .before .args .names) (l .loop .i) (omega arith) (sym (tested (c .before)) ∙ c .if1 .left) ∙ l .loop .inv .1)
+    (search needs, first-miss _ (l .before .before .before .before .args .names) (l .loop .i) (omega arith) (sym (c .before .is-joined-row .ensures) ∙ c .if1 .left) ∙ l .loop .inv .1)
 
 returns-2 : tie.Need-returns-2 Inv-loop μ-loop
 returns-2 c =
