@@ -45,7 +45,7 @@ pub fn ask(case: &Case) -> Result<ExitStatus, String> {
 pub fn answer(letter: &str, row: &str) -> Result<(), String> {
     let mut image = vec![];
     std::io::stdin().read_to_end(&mut image).map_err(|error| error.to_string())?;
-    let loaded = oracle::load(&image).map_err(|why| format!("{why:?}"))?;
+    let loaded = oracle::load(&image)?;
     let row = row.parse().map_err(|_| "a row is a number")?;
     let told = match call(letter) {
         Call::ProjectImpl => loaded.project_impl(row),

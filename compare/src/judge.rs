@@ -2,7 +2,7 @@
 
 use std::rc::Rc;
 
-use oracle::{Cost, Loaded, Refused, Told};
+use oracle::{Cost, Loaded, Read, Told};
 
 use crate::buffers::{Buffers, Side, DETAIL_FILL, OUTPUT_FILL};
 use crate::case::{Case, Whole};
@@ -19,19 +19,16 @@ pub enum By {
     Loader,
     /// 8, which the Rust may not survive: a count on its trees and the second reading.
     Count,
-    /// Texts that are not ASCII: the second reading alone.
-    OtherTexts,
 }
 
 impl By {
-    pub const ALL: [By; 4] = [By::Rust, By::Loader, By::Count, By::OtherTexts];
+    pub const ALL: [By; 3] = [By::Rust, By::Loader, By::Count];
 
     pub fn words(self) -> &'static str {
         match self {
             By::Rust => "by the Rust and the second reading",
             By::Loader => "2 or 3, by the loader and the second reading",
             By::Count => "8, by a count on the Rust's trees and the second reading",
-            By::OtherTexts => "with texts that are not ASCII, by the second reading alone",
         }
     }
 }
@@ -48,7 +45,7 @@ pub struct Judge {
     buffers: Buffers,
     others: Buffers,
     /// The last image's schema: several cases ask about one image.
-    loaded: Option<(Rc<[u8]>, Result<Loaded, Refused>)>,
+    loaded: Option<(Rc<[u8]>, Read<Loaded>)>,
 }
 
 impl Judge {
@@ -120,10 +117,9 @@ impl Judge {
         let (_, loaded) = self.loaded.as_ref().unwrap();
         let number = under.answer.number;
         let loaded = match (loaded, number) {
-            (Err(Refused::Unreadable(_)), 2) => return Ok(By::Loader),
-            (Err(Refused::Unreadable(why)), _) => return Err(format!("the loader finds the image unreadable: {why}")),
-            (_, 2) => return Err("the loader finds the image readable".into()),
-            (Err(Refused::NotAscii), _) => return Ok(By::OtherTexts),
+            (Err(_), 2) => return Ok(By::Loader),
+            (Err(why), _) => return Err(format!("the loader finds the image unreadable: {why}")),
+            (Ok(_), 2) => return Err("the loader finds the image readable".into()),
             (Ok(loaded), _) => loaded,
         };
         match (loaded.is_implementation(case.row), number) {

@@ -19,6 +19,7 @@ mod speed;
 mod stack;
 mod table;
 mod text;
+mod texts;
 mod worst;
 
 use std::io::{ErrorKind, Write};
@@ -33,12 +34,15 @@ use options::Options;
 use readable::Verdicts;
 use second::Call;
 use table::Table;
+use texts::Texts;
 
 const USAGE: &str = "\
 usage: compare/run SUBCOMMAND [OPTION ..]
   run     [--seed S] [--cases N]   every edge, then N cases from seed S, through both sides; prints a table
   readable [--seed S] [--cases N]  every edge, then images from seed S, N in all: the library's verdict beside two
                                    readings; a table, and times
+  texts                            every text of 1 to 3 bytes, and those of 4 at the ends of UTF-8's ranges: the library's
+                                   verdict and the second reading's beside Rust's from_utf8
   library [--seed S] [--cases N]   every edge, then images from seed S, N cases in all at every boundary of both
                                    buffers: the library beside the Rust and the second reading; prints a table
   speed   [--seed S] [--rounds N] [--to FILE]
@@ -104,6 +108,7 @@ fn command(words: &[String]) -> Result<(), Failure> {
     match name.as_str() {
         "run" => run(&options(&["seed", "cases"])?),
         "readable" => readable(&options(&["seed", "cases"])?),
+        "texts" => options(&[]).map_err(Failure::Bad).and_then(|_| texts()),
         "library" => beside(&options(&["seed", "cases"])?),
         "speed" => speed(&options(&["seed", "rounds", "to"])?),
         "count" => count(&options(&["seed", "to", "rows"])?),
@@ -226,6 +231,17 @@ fn readable(options: &Options) -> Result<(), Failure> {
         Ok(())
     } else {
         Err(Failure::Differs("the verdicts differ".into()))
+    }
+}
+
+fn texts() -> Result<(), Failure> {
+    let mut texts = Texts::new(library::READABLE.ok_or(WITHOUT_LIBRARY.to_string())?);
+    texts.judge();
+    print!("{texts}");
+    if texts.agree() {
+        Ok(())
+    } else {
+        Err(Failure::Differs("the sides differ on a text".into()))
     }
 }
 

@@ -4,8 +4,6 @@ use std::collections::BTreeMap;
 use std::fmt;
 use std::time::Instant;
 
-use oracle::Refused;
-
 use crate::gen::{self, Source};
 use crate::library::Verdict;
 use crate::second;
@@ -17,13 +15,14 @@ const BATCH: usize = 256;
 /// A side is asked so often, and its fastest time counts: a busy machine must not count.
 const ROUNDS: usize = 3;
 
-const SOURCES: [(Source, &str); 7] = [
+const SOURCES: [(Source, &str); 8] = [
     (Source::Edge, "edge"),
     (Source::Alike, "alike"),
     (Source::Rich, "rich"),
     (Source::Bound, "bound"),
     (Source::Deep, "deep"),
     (Source::Halves, "halves"),
+    (Source::Utf8, "utf8"),
     (Source::Damaged, "damaged"),
 ];
 
@@ -31,7 +30,7 @@ const SIDES: [&str; 3] = ["library", "second reading", "loader"];
 
 /// The loader's verdict.
 fn loads(image: &[u8]) -> bool {
-    !matches!(oracle::load(image), Err(Refused::Unreadable(_)))
+    oracle::load(image).is_ok()
 }
 
 /// What is counted of images from one source.

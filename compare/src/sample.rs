@@ -33,9 +33,14 @@ const ASKED_TWICE: [&str; 13] = [
 const ONCE: &[Call] = &[Call::ProjectImpl];
 const TWICE: &[Call] = &[Call::ProjectImpl, Call::ExpectedSignatures];
 
-/// Edges that are stored behind all else, by how their labels start: what needs the most stack, and then qualified names.
-const BEHIND: [&str; 2] = ["stack-", HALVES];
+/// Edges that are stored behind all else, by how their labels start: what needs the most stack, then qualified names, then texts.
+const BEHIND: [&str; 3] = ["stack-", HALVES, UTF8];
 const HALVES: &str = "halves-";
+const UTF8: &str = "utf8-";
+
+/// Of the edges of texts, those that are asked for their signatures too, and the one that is also asked with too short a detail.
+const TEXTS_ASKED_TWICE: [&str; 3] = ["utf8-bad-unused-name", "utf8-bad-unused-string", "utf8-good-qualified"];
+const SHORT_DETAIL: &str = "utf8-bad-unused-string";
 
 /// Of the edges that need the most stack those that were reported, the deepest of each kind in each code that was measured, and
 /// the deepest of all with a qualified name.
@@ -116,7 +121,7 @@ pub fn balanced(seed: u64, count: usize, most: usize, large: usize) -> Result<Sa
     Ok(sample)
 }
 
-/// The vectors: every edge, a few random cases of each number, the deepest edges, and those of qualified names.
+/// The vectors: every edge, a few random cases of each number, the deepest edges, and those of qualified names and of texts.
 pub fn vectors(seed: u64) -> Result<Sample, String> {
     let mut judge = Judge::default();
     let mut sample = vec![];
@@ -150,6 +155,9 @@ pub fn vectors(seed: u64) -> Result<Sample, String> {
     for (place, (edge, calls)) in chosen(&behind)?.into_iter().enumerate() {
         for (base, need) in asked(edge, place, calls) {
             add(edge.label.clone(), lent(place, &base, need))?;
+            if edge.label == SHORT_DETAIL {
+                add(format!("{SHORT_DETAIL}-detail-575"), Case { detail: DETAIL_BYTES - 1, ..base })?;
+            }
         }
     }
     Ok(sample)
@@ -165,6 +173,10 @@ fn chosen(behind: &[Edge]) -> Result<Vec<(&Edge, &'static [Call])>, String> {
     }
     for edge in behind.iter().filter(|edge| edge.label.starts_with(HALVES)) {
         let twice = !edge.label.ends_with(gen::NOTHING) && edge.image.len() < 2_000;
+        chosen.push((edge, if twice { TWICE } else { ONCE }));
+    }
+    for edge in behind.iter().filter(|edge| edge.label.starts_with(UTF8)) {
+        let twice = TEXTS_ASKED_TWICE.contains(&edge.label.as_str());
         chosen.push((edge, if twice { TWICE } else { ONCE }));
     }
     Ok(chosen)

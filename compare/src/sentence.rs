@@ -35,7 +35,7 @@ pub fn name(image: &[u8], row: u32) -> Option<String> {
     let trailer = image.len().checked_sub(24)?;
     let at = word(image, trailer)? as usize + 16 * row as usize;
     let (start, length) = (word(image, at)? as usize, word(image, at + 4)? as usize);
-    Some(String::from_utf8_lossy(image.get(start..start + length)?).into_owned())
+    String::from_utf8(image.get(start..start + length)?.to_vec()).ok()
 }
 
 fn word(bytes: &[u8], at: usize) -> Option<u32> {

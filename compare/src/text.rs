@@ -39,7 +39,7 @@ pub fn image(image: &[u8]) -> String {
 pub fn answered(case: &Case, whole: &Whole) -> String {
     let (image, a) = (&case.image, &whole.answer);
     let name = |row: u32| match sentence::name(image, row) {
-        Some(text) if row != NONE => format!("{row} '{}'", text.escape_default()),
+        Some(text) if row != NONE => format!("{row} '{}'", text.escape_debug()),
         _ => "none".into(),
     };
     let told = sentence::sentence(image, a, &whole.detail).map_or(String::new(), |(text, _)| text);

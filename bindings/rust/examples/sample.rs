@@ -95,7 +95,7 @@ fn text(image: &[u8], row: u32) -> Option<String> {
     let word = |at: usize| Some(u32::from_le_bytes(image.get(at..at + 4)?.try_into().ok()?) as usize);
     let at = word(image.len().checked_sub(24)?)? + 16 * row as usize;
     let (start, length) = (word(at)?, word(at + 4)?);
-    Some(String::from_utf8_lossy(image.get(start..start + length)?).into_owned())
+    String::from_utf8(image.get(start..start + length)?.to_vec()).ok()
 }
 
 fn print(image: &[u8], accepted: &Accepted, function: fn(&mut Reader) -> Option<()>) -> Option<()> {

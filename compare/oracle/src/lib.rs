@@ -11,5 +11,6 @@ mod visits;
 include!(concat!(env!("OUT_DIR"), "/modules.rs"));
 
 pub use answer::Told;
-pub use loader::{load, Loaded, Refused};
+pub use cursor::Read;
+pub use loader::{load, Loaded};
 pub use visits::Cost;

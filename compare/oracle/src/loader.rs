@@ -1,5 +1,5 @@
-//! Reads a flat image into the Rust's `CompiledSchema`, from document 01 alone and through the registry's own setters.
-//! It refuses exactly what 01 calls unreadable, so that number 2 is judged twice.
+//! Reads a flat image into the Rust's `CompiledSchema`, from document 01, with 02's rule that texts are UTF-8, and through
+//! the registry's own setters. It refuses exactly what is unreadable, so that number 2 is judged twice.
 
 use std::collections::{HashMap, HashSet};
 
@@ -7,7 +7,7 @@ use smol_str::SmolStr;
 
 use crate::answer::NONE;
 use crate::ast::{EnumBacking, PrimitiveType, TypeParam};
-use crate::cursor::{Cursor, Read, Tables, Unreadable};
+use crate::cursor::{Cursor, Read, Tables};
 use crate::ir::{
     BinOp, CompiledSchema, ConfigDef, EnumDef, Expr, FieldDef, FieldEncoding, FlagsDef, FnBody, FnParamDef,
     GenericAliasDef, ImplDef, ImplFnDef, MessageDef, NewtypeDef, ResolvedAnnotations, ResolvedType, Statement,
@@ -39,44 +39,23 @@ pub struct Loaded {
     pub(crate) rows: HashMap<SmolStr, u32>,
 }
 
-/// Why the Rust cannot be asked.
-#[derive(Debug, Clone, Copy, PartialEq, Eq)]
-pub enum Refused {
-    /// Number 2, and why.
-    Unreadable(&'static str),
-    /// Readable, but the Rust's texts are compared in ASCII only.
-    NotAscii,
-}
-
-impl From<Unreadable> for Refused {
-    fn from(why: Unreadable) -> Self {
-        Refused::Unreadable(why)
-    }
-}
-
-pub fn load(image: &[u8]) -> Result<Loaded, Refused> {
+/// The image's schema, or why it is unreadable.
+pub fn load(image: &[u8]) -> Read<Loaded> {
     let (texts, names, strings, pool, definitions) = sections(image)?;
 
-    let name_texts: Vec<&[u8]> = names.iter().map(|row| text(texts, row[0], row[1])).collect::<Read<_>>()?;
+    let name_texts: Vec<&str> = names.iter().map(|row| text(texts, row[0], row[1])).collect::<Read<_>>()?;
     if name_texts.iter().any(|text| text.is_empty() || text.len() > 255) {
-        return Err(Refused::Unreadable("a name's length"));
+        return Err("a name's length");
     }
     if name_texts.iter().collect::<HashSet<_>>().len() < names.len() {
-        return Err(Refused::Unreadable("two names are equal"));
+        return Err("two names are equal");
     }
-    let string_texts: Vec<&[u8]> = strings.iter().map(|row| text(texts, row[0], row[1])).collect::<Read<_>>()?;
-
     let tables = Tables {
-        names: name_texts.iter().map(|text| SmolStr::new(String::from_utf8_lossy(text))).collect(),
-        strings: string_texts.iter().map(|text| String::from_utf8_lossy(text).into_owned()).collect(),
+        names: name_texts.into_iter().map(SmolStr::new).collect(),
+        strings: strings.iter().map(|row| text(texts, row[0], row[1]).map(String::from)).collect::<Read<_>>()?,
         pool,
     };
     let registry = registry(&tables, &names, &definitions)?;
-
-    // Only now, so that an unreadable image is always found to be one.
-    if !name_texts.iter().chain(&string_texts).all(|text| text.is_ascii()) {
-        return Err(Refused::NotAscii);
-    }
     let schema = CompiledSchema {
         namespace: Vec::new(),
         annotations: ResolvedAnnotations::default(),
@@ -121,9 +100,11 @@ fn rows<const N: usize>(bytes: &[u8]) -> Read<Vec<[u32; N]>> {
     Ok(bytes.chunks(4 * N).map(|row| std::array::from_fn(|index| word(row, index))).collect())
 }
 
-fn text(texts: &[u8], start: u32, length: u32) -> Read<&[u8]> {
+/// A row's own text, whatever stands beside it.
+fn text(texts: &[u8], start: u32, length: u32) -> Read<&str> {
     let (start, length) = (start as usize, length as usize);
-    texts.get(start..start + length).ok_or("a text leaves its section")
+    let bytes = texts.get(start..start + length).ok_or("a text leaves its section")?;
+    std::str::from_utf8(bytes).map_err(|_| "a text is not UTF-8")
 }
 
 /// Every row is read, used or not.

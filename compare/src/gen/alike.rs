@@ -5,8 +5,8 @@ use super::model::{assemble, NONE};
 const NAMES: usize = 1_024;
 const LENGTH: usize = 255;
 
-/// As many texts side by side as the rows leave room for.
-const TEXTS: usize = 192;
+/// As many texts side by side as an ASCII byte tells apart from zeros.
+const TEXTS: usize = 127;
 
 /// What tells a text from the others, among zeros.
 #[derive(Clone, Copy)]

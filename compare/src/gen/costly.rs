@@ -207,7 +207,7 @@ mod tests {
                 let image = costly(kind, bytes).unwrap_or_else(|| panic!("{label} has an image of {bytes} bytes"));
                 assert!(image.len() > last, "{label} grows");
                 last = image.len();
-                let loaded = oracle::load(&image).unwrap_or_else(|why| panic!("{label} is loaded: {why:?}"));
+                let loaded = oracle::load(&image).unwrap_or_else(|why| panic!("{label} is loaded: {why}"));
                 assert_eq!(loaded.accepts_impl(ROW), Some(true), "{label} at {bytes}");
                 let case =
                     Case { call: Call::ProjectImpl, image: image.into(), row: ROW, output: 0, detail: DETAIL_BYTES };

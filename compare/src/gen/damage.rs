@@ -89,10 +89,10 @@ fn interesting(rng: &mut Rng, old: u32) -> u32 {
     }
 }
 
-fn word(image: &[u8], at: usize) -> u32 {
+pub fn word(image: &[u8], at: usize) -> u32 {
     u32::from_le_bytes(image[at..at + 4].try_into().unwrap())
 }
 
-fn put(image: &mut [u8], at: usize, word: u32) {
+pub fn put(image: &mut [u8], at: usize, word: u32) {
     image[at..at + 4].copy_from_slice(&word.to_le_bytes());
 }

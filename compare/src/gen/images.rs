@@ -11,6 +11,7 @@ use super::model::Model;
 use super::nested;
 use super::rich::{implement, rich, Rich};
 use super::rng::Rng;
+use super::utf8;
 
 #[derive(Clone, Copy, PartialEq, Eq, PartialOrd, Ord)]
 pub enum Source {
@@ -25,6 +26,8 @@ pub enum Source {
     Deep,
     /// Rich or small, with qualified names for which there is a row, or nearly.
     Halves,
+    /// Rich or about qualified names, with texts that leave ASCII behind; some with a byte of a text or a row's place changed.
+    Utf8,
     Damaged,
 }
 
@@ -50,8 +53,11 @@ struct Family {
     mask: u64,
 }
 
-const FAMILIES: [Family; 2] =
-    [Family { share: 4, make: make_deep, mask: u64::MAX }, Family { share: 4, make: make_halves, mask: u64::MAX / 3 }];
+const FAMILIES: [Family; 3] = [
+    Family { share: 4, make: make_deep, mask: u64::MAX },
+    Family { share: 4, make: make_halves, mask: u64::MAX / 3 },
+    Family { share: 8, make: make_utf8, mask: u64::MAX / 5 },
+];
 
 /// Makes images from a seed. A family has a stream of numbers of its own: the others are the same without it.
 pub struct Maker {
@@ -96,7 +102,7 @@ fn make(rng: &mut Rng) -> Made {
         bound(rng, &mut rich, past);
     }
     if rng.chance(1) {
-        other_texts(rng, &mut rich.model);
+        broken_texts(rng, &mut rich.model);
     }
     let mut image = if rng.chance(70) { rich.model.loose_image(rng) } else { rich.model.plain_image() };
     if source == Source::Damaged {
@@ -126,6 +132,20 @@ fn make_halves(rng: &mut Rng) -> Made {
     laid_out(rng, Source::Halves, &rich)
 }
 
+/// Texts that leave ASCII behind, as they should be or with something changed in them.
+fn make_utf8(rng: &mut Rng) -> Made {
+    let aim = if rng.chance(50) { 0 } else { *rng.pick(&AIMS) };
+    let rich = utf8::any(rng, aim);
+    let mut made = laid_out(rng, Source::Utf8, &rich);
+    if made.source == Source::Utf8 {
+        utf8::fill_free(rng, &mut made.image);
+        if rng.chance(45) {
+            utf8::disturb(rng, &mut made.image);
+        }
+    }
+    made
+}
+
 /// The image of a family's model; now and then damaged.
 fn laid_out(rng: &mut Rng, source: Source, Rich { model, row }: &Rich) -> Made {
     let mut image = if rng.chance(70) { model.loose_image(rng) } else { model.plain_image() };
@@ -137,8 +157,8 @@ fn laid_out(rng: &mut Rng, source: Source, Rich { model, row }: &Rich) -> Made {
     Made { source, image, row: *row, rows: model.defs.len() as u32 }
 }
 
-/// Texts that are not ASCII: 01 takes any bytes.
-fn other_texts(rng: &mut Rng, model: &mut Model) {
+/// A name's text that is not UTF-8, and often a string's.
+fn broken_texts(rng: &mut Rng, model: &mut Model) {
     let name = rng.below(model.names.len());
     model.names[name].text.push(128 + rng.below(128) as u8);
     if let Some(text) = model.strings.first_mut() {

@@ -17,6 +17,7 @@ mod rich;
 mod rng;
 mod tiny;
 mod types;
+mod utf8;
 
 use std::collections::VecDeque;
 use std::rc::Rc;
@@ -32,6 +33,7 @@ use images::Maker;
 pub use images::{images, Source};
 pub use passed::{passed, Passed, ROW as PASSED_ROW, ROWS as PASSED_ROWS};
 use rng::Rng;
+pub use utf8::{lone_name, strings};
 
 /// An endless supply of cases from one seed.
 pub struct Cases {

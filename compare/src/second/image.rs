@@ -1,5 +1,6 @@
 //! "The schema image": everything that is read is checked here; None is number 2.
 
+use super::utf8::well_formed;
 use super::NONE;
 
 /// A type's words in prefix order, resolved or an expression.
@@ -112,7 +113,11 @@ pub fn read(bytes: &[u8]) -> Option<Image> {
         return None;
     }
 
-    let text = |row: usize| bytes[..names].get(word(row) as usize..word(row) as usize + word(row + 4) as usize);
+    // A row's own bytes alone: those beside it complete nothing, and those of no row are free.
+    let text = |row: usize| {
+        let (start, length) = (word(row) as usize, word(row + 4) as usize);
+        bytes[..names].get(start..start + length).filter(|text| well_formed(text))
+    };
     let words: Vec<u32> = (pool..definitions).step_by(4).map(word).collect();
     let counts = Counts {
         names: ((strings - names) / 16) as u32,

@@ -1,10 +1,11 @@
-//! A second, plain reading of document 01: an image in, the whole answer out. It shares nothing with the loader, and is
-//! the judge where the Rust has no answer. Quotations are 01's words.
+//! A second, plain reading of document 01, and of 02's rule for texts: an image in, the whole answer out. It shares nothing
+//! with the loader, and is the judge where the Rust has no answer. Quotations are their words.
 
 mod body;
 mod image;
 mod signature;
 mod subst;
+mod utf8;
 
 use image::{Definition, Image, Implementation};
 

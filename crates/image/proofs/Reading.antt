@@ -25,7 +25,7 @@ use Rattle.image_sections.specs.Laid.{value, opened-told, Laid}
 use Rattle.image_rows.specs.declared.Rows.{Rows}
 use Rattle.image_rows.specs.Verdict.{verdict, RowsSay}
 use Rattle.image_rows.proofs.RowSteps.{elsewhere}
-use Rattle.image_rows.proofs.Layouts.{Names, names-give, strings-give, Definitions, definitions-give, texts-rule}
+use Rattle.image_rows.proofs.Layouts.{Names, names-give, Strings, strings-give, Definitions, definitions-give, texts-rule}
 use Rattle.image.specs.Verdict.{Verdict}
 
 -- a reading of other words, and then what follows, which may know what was read
@@ -61,17 +61,26 @@ module _ (image : List ℕ) (l : Layout) where
 
 -- the rows of the schema that they give
 module _ (image : List ℕ) (l : Layout) (cut : Cut image l) where
-  rows-give : Gives (rows-of image l) [] 0 (λ s m. Names image l cut (s .names) × Definitions image l cut (s .definitions))
+  rows-give : Gives (rows-of image l) [] 0 (λ s m. Names image l cut (s .names) × Strings image l cut (s .strings) × Definitions image l cut (s .definitions))
   unfolding rows
   rows-give =
       gives.then (gives.from-gives (names-give image l cut) [] 0) (λ ns a h.
-      gives.rule-then _ _ (λ _. gives.then (gives.from-gives (strings-give image l cut) [] a) (λ _ b i.
-      gives.then (gives.from-gives (definitions-give image l cut) [] b) (λ ds c k. gives.given _ (h .2, k .2)))))
+      gives.rule-then _ _ (λ _. gives.then (gives.from-gives (strings-give image l cut) [] a) (λ ss b i.
+      gives.then (gives.from-gives (definitions-give image l cut) [] b) (λ ds c k. gives.given _ (h .2, i .2, k .2)))))
 
   opened : (s : CompiledSchema) (q : Rest) → rows-of image l (rest-at [] 0) ≡ some (s, q) → readable image ≡ some s → Open image l s
   opened s q e r =
       let g = gives.of rows-give e .1 in
-      record { inside = cut .inside; read = r; names = g .0 .count; definitions = g .1 .count; name = g .0 .each; definition = g .1 .each }
+      record {
+        inside = cut .inside;
+        read = r;
+        names = g .0 .count;
+        strings = g .1 .count;
+        definitions = g .2 .count;
+        name = g .0 .each;
+        string = g .1 .each;
+        definition = g .2 .each;
+      }
 
 none-some : {A : Type 0} {a : A} → none ≡ some a → ⊥
 none-some e = let z : _≡_ {A = ℕ} 0 1 = cc in omega arith

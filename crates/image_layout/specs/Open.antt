@@ -45,12 +45,18 @@ module _ (image : List ℕ) (l : Layout) where
     pub definition : n .definition ≡ row-word image (l .names) i 2
     pub alias : AliasStands (l .names .rows) pool-words (row-word image (l .names) i 3) (n .alias)
 
+  -- the words of string row i say where its text stands
+  abbrev pub StringStands : ℕ → List ℕ → Type 0
+  StringStands i text = text ≡ take (row-word image (l .strings) i 1) (drop (row-word image (l .strings) i 0) image)
+
   -- the image is readable, s is its schema, and every row says what s has there
   pub record Open (s : CompiledSchema) : Type 0 where
     pub inside : Inside image l
     pub read : readable image ≡ some s
     pub names : length (s .names) ≡ l .names .rows
+    pub strings : length (s .strings) ≡ l .strings .rows
     pub definitions : length (s .definitions) ≡ l .definitions .rows
     pub name : (i : ℕ) (n : Name) → getElem? (s .names) i ≡ some n → NameStands i n
+    pub string : (i : ℕ) (text : List ℕ) → getElem? (s .strings) i ≡ some text → StringStands i text
     pub definition : (d : ℕ) (t : TypeDef) → getElem? (s .definitions) d ≡ some t
         → DefinitionStands (l .names .rows) (l .strings .rows) pool-words (definition-kind (row-word image (l .definitions) d 0)) (row-word image (l .definitions) d 1) t

@@ -11,7 +11,7 @@ module _ (image : List ℕ) (l : Layout) where
   abbrev pub name-row-of : Reader Name
   name-row-of = name-row image (l .texts) (section-words image (l .pool)) (l .names .rows) (l .strings .rows) (l .definitions .rows)
 
-  abbrev pub string-row-of : Reader (Unit {0})
+  abbrev pub string-row-of : Reader (List ℕ)
   string-row-of = string-row image (l .texts) (section-words image (l .pool)) (l .names .rows) (l .strings .rows) (l .definitions .rows)
 
   abbrev pub definition-row-of : Reader TypeDef

@@ -1,4 +1,4 @@
--- Over a layout: the names and definitions that an image's rows give stand in them, and the names' texts are those of the rows.
+-- Over a layout: the names, strings and definitions that an image's rows give stand in them, and the names' texts are those of the rows.
 use Prim.Native.Nat.{ℕ, _+_, _*_, _<_}
 use mathlib.Core.Path.{_≡_, refl, sym, ap, subst, _∙_}
 use mathlib.Core.List.{List}
@@ -21,10 +21,10 @@ use Rattle.image_layout.specs.declared.Table.{Table}
 use Rattle.image_layout.specs.declared.Layout.{Layout}
 use Rattle.image_layout.specs.Rows.{Cut, row-word}
 use Rattle.image_layout.specs.Readers.{name-row-of, string-row-of, definition-row-of}
-use Rattle.image_layout.specs.Open.{AliasStands, DefinitionStands, NameStands, pool-words}
+use Rattle.image_layout.specs.Open.{AliasStands, DefinitionStands, NameStands, StringStands, pool-words}
 use Rattle.image_layout.proofs.Words.{row-inside}
 use Rattle.image_rows.proofs.RowSteps.{row-at}
-use Rattle.image_rows.proofs.Standing.{NameAt, name-gives, string-gives, DefinitionAt, definition-gives, row-th, there}
+use Rattle.image_rows.proofs.Standing.{NameAt, name-gives, StringAt, string-gives, DefinitionAt, definition-gives, row-th, there}
 
 module _ (image : List ℕ) (l : Layout) (cut : Cut image l) where
   -- a word of the section, by its row
@@ -61,8 +61,30 @@ module _ (image : List ℕ) (l : Layout) (cut : Cut image l) where
   pub names-give : Gives (times (l .names .rows) (name-row-of image l)) (section-words image (l .names .words)) 0 (λ ns m. Names ns)
   names-give = gives.so-then (gives.times-gives NameOf (λ at. name-gives _ _ _ _ _ _ _ at) (l .names .rows) 0) names-stand
 
-  pub strings-give : Gives (times (l .strings .rows) (string-row-of image l)) (section-words image (l .strings .words)) 0 (λ us m. Unit {0})
-  strings-give = gives.so-then (gives.times-gives (λ u a m. Unit {0}) (λ at. string-gives _ _ _ _ _ _ _ at) (l .strings .rows) 0) (λ us m h. tt)
+  -- as many strings as there are rows, each as its row says
+  pub record Strings (ts : List (List ℕ)) : Type 0 where
+    pub count : length ts ≡ l .strings .rows
+    pub each : (i : ℕ) (t : List ℕ) → getElem? ts i ≡ some t → StringStands image l i t
+
+  abbrev StringOf : List ℕ → ℕ → ℕ → Type 0
+  StringOf t at m = StringAt image (l .texts) (section-words image (l .pool)) (l .names .rows) (l .strings .rows) (l .definitions .rows) (section-words image (l .strings .words)) at t × (m ≡ at + 2)
+
+  string-stands : (i : ℕ) (t : List ℕ) → i < l .strings .rows → {m : ℕ} → StringOf t (0 + 2 * i) m → StringStands image l i t
+  string-stands i t below of =
+      rw (
+        by-index (l .strings) 2 i 1 (0 + 2 * i + 1) (cut .strings) below (omega arith) refl,
+        by-index (l .strings) 2 i 0 (0 + 2 * i) (cut .strings) below (omega arith) (omega arith),
+      ) at
+      (of .0)
+
+  strings-stand : (ts : List (List ℕ)) (m : ℕ) → Row StringOf ts 0 m × (length ts ≡ l .strings .rows) → Strings ts
+  strings-stand ts m g = record {
+    count = g .1;
+    each = λ i t x. string-stands i t (omega (arith, there ts i t x, g .1)) (row-th StringOf 2 (λ x a m h. h .1) ts 0 m (g .0) i t x .1);
+  }
+
+  pub strings-give : Gives (times (l .strings .rows) (string-row-of image l)) (section-words image (l .strings .words)) 0 (λ ts m. Strings ts)
+  strings-give = gives.so-then (gives.times-gives StringOf (λ at. string-gives _ _ _ _ _ _ _ at) (l .strings .rows) 0) strings-stand
 
   -- a definition's row says d
   abbrev DefinitionIn : ℕ → TypeDef → Type 0

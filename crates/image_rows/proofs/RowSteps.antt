@@ -5,11 +5,12 @@ use mathlib.Core.Bool.{Bool, true, false}
 use mathlib.Core.List.{List, [], _∷_}
 use mathlib.Core.Option.{Option, some}
 use native.Mathlib.Omega.{arith}
-use native.Mathlib.Nat.{mul-suc}
+use native.Mathlib.Nat.{mul-suc, add-sub-cancel-left}
 use native.Mathlib.Numerals.{add-one}
-use lib.ListN.{getD}
+use lib.ListN.{take, drop, getD}
 use borrow.Author.Tests.{eq-eqb, ne-eqb, lt-ltb}
 use Rattle.rules.specs.Words.{NONE}
+use Rattle.rules.specs.Utf8.{well-formed}
 use Rattle.rules.specs.Reader.{Rest, Reader, _>>=_, give, rule, word, times, from}
 use Rattle.rules.specs.ReadTypes.{resolved-type}
 use Rattle.rules.specs.Image.{alias-at, definition-node, definition-row}
@@ -21,8 +22,10 @@ use Rattle.image_words.proofs.Says.{word-in, word-then, given, from-then, from-
 use Rattle.image_words.proofs.Loops.{turn, turn-stop, turn-done}
 use Rattle.image_layout.specs.declared.Table.{Table}
 use Rattle.image_layout.specs.declared.Layout.{Layout}
+use Rattle.image_layout.specs.declared.NameRow.{NameRow}
+use Rattle.image_layout.specs.declared.StringRow.{StringRow}
 use Rattle.image_layout.specs.declared.DefinitionRow.{DefinitionRow}
-use Rattle.image_layout.specs.Rows.{Fits, Cut, row-word, IsDefinitionRow}
+use Rattle.image_layout.specs.Rows.{Fits, Cut, row-word, IsNameRow, IsStringRow, IsDefinitionRow}
 use Rattle.image_layout.specs.Readers.{definition-row-of}
 use Rattle.image_layout.proofs.Words.{row-inside}
 use Rattle.image_rows.specs.Verdict.{verdict}
@@ -41,19 +44,30 @@ module _ (image : List ℕ) (t : Table) (i k : ℕ) (below : i < t .rows) (insid
 
 -- all words of a row, and then what follows
 module _ {image : List ℕ} {t : Table} (fits : Fits image t) {i : ℕ} (below : i < t .rows) {A : Type 0} {r : Checked} where
-  pub two-then : t .width ≡ 2 → (f : ℕ → ℕ → Reader A) {a b : ℕ} → a ≡ row-word image t i 0 → b ≡ row-word image t i 1
+  two-then : t .width ≡ 2 → (f : ℕ → ℕ → Reader A) {a b : ℕ} → a ≡ row-word image t i 0 → b ≡ row-word image t i 1
       → Says (f a b) (section-words image (t .words)) (t .width * (i + 1)) r → Says (word >>= λ a. word >>= λ b. f a b) (section-words image (t .words)) (t .width * i) r
   two-then w f {a} {b} p q h =
       let e : t .width * (i + 1) ≡ t .width * i + 1 + 1 = rw (add-one i) (omega (arith, mul-suc (t .width) i)) in
       step image t i 0 below (omega arith) fits _ (omega arith) p (step image t i 1 below (omega arith) fits _ (omega arith) q (rw e at h))
 
-  pub four-then : t .width ≡ 4 → (f : ℕ → ℕ → ℕ → ℕ → Reader A) {a b c d : ℕ} → a ≡ row-word image t i 0 → b ≡ row-word image t i 1 → c ≡ row-word image t i 2 → d ≡ row-word image t i 3
+  four-then : t .width ≡ 4 → (f : ℕ → ℕ → ℕ → ℕ → Reader A) {a b c d : ℕ} → a ≡ row-word image t i 0 → b ≡ row-word image t i 1 → c ≡ row-word image t i 2 → d ≡ row-word image t i 3
       → Says (f a b c d) (section-words image (t .words)) (t .width * (i + 1)) r
       → Says (word >>= λ a. word >>= λ b. word >>= λ c. word >>= λ d. f a b c d) (section-words image (t .words)) (t .width * i) r
   four-then w f {a} {b} {c} {d} p q u v h =
       let e : t .width * (i + 1) ≡ t .width * i + 1 + 1 + 1 + 1 = rw (add-one i) (omega (arith, mul-suc (t .width) i)) in
       step image t i 0 below (omega arith) fits _ (omega arith) p (step image t i 1 below (omega arith) fits _ (omega arith) q
       (step image t i 2 below (omega arith) fits _ (omega arith) u (step image t i 3 below (omega arith) fits _ (omega arith) v (rw e at h))))
+
+-- a name's row, and a string's
+pub name-then : {image : List ℕ} {l : Layout} → Cut image l → {i : ℕ} → i < l .names .rows → {row : NameRow} → IsNameRow image l i row → {A : Type 0} (f : ℕ → ℕ → ℕ → ℕ → Reader A) {r : Checked}
+    → Says (f (row .start) (row .size) (row .definition .0) (row .alias)) (section-words image (l .names .words)) (l .names .width * (i + 1)) r
+    → Says (word >>= λ a. word >>= λ b. word >>= λ c. word >>= λ d. f a b c d) (section-words image (l .names .words)) (l .names .width * i) r
+name-then cut below is f h = four-then (cut .inside .names) below (cut .names) f (is .start) (is .size) (is .definition) (is .alias) h
+
+pub string-then : {image : List ℕ} {l : Layout} → Cut image l → {i : ℕ} → i < l .strings .rows → {row : StringRow} → IsStringRow image l i row → {A : Type 0} (f : ℕ → ℕ → Reader A) {r : Checked}
+    → Says (f (row .start) (row .size)) (section-words image (l .strings .words)) (l .strings .width * (i + 1)) r
+    → Says (word >>= λ a. word >>= λ b. f a b) (section-words image (l .strings .words)) (l .strings .width * i) r
+string-then cut below is f h = two-then (cut .inside .strings) below (cut .strings) f (is .start) (is .size) h
 
 -- a refusal says no place
 refused : {A : Type 0} {r : Reader A} {ws : List ℕ} {at : ℕ} {c : Checked} → Says r ws at c → c .ok ≡ false → Says r ws at refusal
@@ -69,9 +83,16 @@ elsewhere {r} f {words} {start} {c} s {ws} {at} = go (c .ok) refl
     go false n = refused (from-stop s _ n) n
 
 -- a last rule
-pub last-rule : (b : Bool) {ws : List ℕ} {at : ℕ} → Says (rule b) ws at (verdict b at)
-last-rule true = rule-alone refl refl
-last-rule false = rule-alone-stop refl
+pub last-rule : {b c : Bool} → b ≡ c → {ws : List ℕ} {at : ℕ} → Says (rule b) ws at (verdict c at)
+last-rule {b} e {ws} {at} = subst (λ (c : Bool). Says (rule b) ws at (verdict c at)) e (go b)
+  where
+    go : (b : Bool) → Says (rule b) ws at (verdict b at)
+    go true = rule-alone refl refl
+    go false = rule-alone-stop refl
+
+-- a row's own text, cut out of the image by its start and end
+pub own-text : (image : List ℕ) (start size : ℕ) {r : Bool} → r ≡ well-formed (take (start + size - start) (drop start image)) → well-formed (take size (drop start image)) ≡ r
+own-text image start size f = sym (f ∙ ap (λ (n : ℕ). well-formed (take n (drop start image))) (add-sub-cancel-left start size))
 
 -- an alias: none, or a type in the pool
 module _ (image : List ℕ) (texts : ℕ) (pool : List ℕ) (names strings definitions : ℕ) (start : ℕ) {ws : List ℕ} {at : ℕ} where

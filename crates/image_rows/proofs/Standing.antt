@@ -1,7 +1,6 @@
 -- What the readers of rows give, and where it stands.
 use Prim.Native.Nat.{ℕ, zero, suc, _+_, _*_, _<_}
 use mathlib.Core.Path.{_≡_, refl, sym, ap, subst, _∙_}
-use mathlib.Core.Bool.{Bool, true, false}
 use mathlib.Core.List.{List, [], _∷_}
 use mathlib.Core.Option.{Option, none, some}
 use native.Mathlib.Omega.{arith}
@@ -10,7 +9,7 @@ use lib.Dec.{eqb}
 use borrow.Author.Tests.{eqb-true, eqb-false}
 use Rattle.rules.specs.Words.{NONE}
 use Rattle.rules.specs.Syntax.{Name, TypeDef}
-use Rattle.rules.specs.Reader.{Rest, rest-at, Reader, _>>=_, give, rule, from}
+use Rattle.rules.specs.Reader.{Rest, rest-at, Reader, _>>=_, give, from}
 use Rattle.rules.specs.Kinds.{definition-kind}
 use Rattle.rules.specs.Image.{alias-at, name-row, string-row, definition-node, definition-row}
 use Rattle.rules.specs.declared.kinds.DefinitionKind.{DefinitionKind}
@@ -34,11 +33,6 @@ module _ {A : Type 0} {r : Reader A} (ws : List ℕ) (start : ℕ) {P : A → �
   -- of a body that stands elsewhere something is made; the own place stays
   made : {B : Type 0} (f : A → B) (Q : B → Type 0) → ((a : A) → Stored r ws start a → Q (f a)) → {own : List ℕ} {at : ℕ} → Gives (from ws start r >>= λ a. give (f a)) own at (λ b n. Q b × (n ≡ at))
   made f Q h {own} {at} = gives.then (gives.from-gives stored own at) (λ a m i. gives.given _ (h a (record { next = i .1; read = i .2 }), i .0))
-
-rule-gives : (b : Bool) {ws : List ℕ} {at : ℕ} → Gives (rule b) ws at (λ u m. Unit {0})
-unfolding rule
-rule-gives true = record { so = (refl, tt) }
-rule-gives false = record { so = tt }
 
 -- the i-th of things that stand one behind the other, each w words long
 pub row-th : {A : Type 0} (Q : A → ℕ → ℕ → Type 0) (w : ℕ) → ((x : A) (a m : ℕ) → Q x a m → m ≡ a + w) → (xs : List A) (at n : ℕ) → Row Q xs at n
@@ -76,12 +70,17 @@ module _ (image : List ℕ) (texts : ℕ) (pool : List ℕ) (names strings defin
   unfolding name-row
   name-gives at =
       gives.word-then (λ start a. gives.word-then (λ size b. gives.word-then (λ definition c. gives.word-then (λ alias d.
-      gives.rule-then _ _ (λ _. gives.rule-then _ _ (λ _. gives.then (alias-gives alias _) (λ t m s.
-      gives.given _ (record { text = cc (a .is, b .is); definition = sym (c .is); alias = subst (λ (k : ℕ). AliasStands names pool k t) (sym (d .is)) (s .0) }, omega (arith, s .1)))))))))
+      gives.rule-then _ _ (λ _. gives.rule-then _ _ (λ _. gives.rule-then _ _ (λ _. gives.rule-then _ _ (λ _. gives.then (alias-gives alias _) (λ t m s.
+      gives.given _ (record { text = cc (a .is, b .is); definition = sym (c .is); alias = subst (λ (k : ℕ). AliasStands names pool k t) (sym (d .is)) (s .0) }, omega (arith, s .1)))))))))))
 
-  pub string-gives : (at : ℕ) → Gives (string-row image texts pool names strings definitions) ws at (λ u m. Unit {0})
+  -- the words from `at` on say where a string's text stands
+  abbrev pub StringAt : ℕ → List ℕ → Type 0
+  StringAt at text = text ≡ take (getD ws (at + 1) 0) (drop (getD ws at 0) image)
+
+  pub string-gives : (at : ℕ) → Gives (string-row image texts pool names strings definitions) ws at (λ text m. StringAt at text × (m ≡ at + 2))
   unfolding string-row
-  string-gives at = gives.word-then (λ start a. gives.word-then (λ size b. rule-gives _))
+  string-gives at =
+      gives.word-then (λ start a. gives.word-then (λ size b. gives.rule-then _ _ (λ _. gives.rule-then _ _ (λ _. gives.given _ (cc (a .is, b .is), omega arith)))))
 
   node-gives : (k : DefinitionKind) (start at : ℕ) → Gives (definition-node image texts pool names strings definitions k start) ws at (λ d n. DefinitionStands names strings pool k start d × (n ≡ at))
   unfolding definition-node

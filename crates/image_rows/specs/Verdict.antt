@@ -18,7 +18,7 @@ verdict ok next = record { ok = ok; next = cond ok next 0 }
 -- by which rows are meant: what a row gives, where they stand, and the reader of one
 abbrev pub Thing : Rows → Type 0
 Thing Rows.Names = Name
-Thing Rows.Strings = Unit {0}
+Thing Rows.Strings = List ℕ
 Thing Rows.Definitions = TypeDef
 
 abbrev pub table-of : Rows → Layout → Table

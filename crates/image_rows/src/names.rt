@@ -8,14 +8,23 @@ ghost use Prim.Native.Nat.{_<_};
 ghost use Rattle.image_layout.specs.Rows.{Cut};
 ghost use Rattle.image_rows.specs.Verdict.{NameSays};
 
-// A text of 1 to 255 bytes inside the texts, a definition that exists or NONE, an alias's type or NONE.
+// A text of 1 to 255 bytes inside the texts, well-formed by itself; a definition that exists or NONE; an alias's type or NONE.
 pub fn check_name_row(image: &[u8], l: Layout, i: NameId) -> bool
     requires { ⌜ Cut (now image) l × (i .0 < l .names .rows) ⌝ }
     ensures { λ r. ⌜ NameSays (now (image .entry)) l (i .0) r ⌝ }
 {
     let row = image_layout::name_row(image, l, i);
+    let texts = l.texts;
+    let start = row.start as usize;
     let size = row.size as usize;
-    if !((1 <= size) & (size <= TEXT_BYTES) & (row.start as usize + size <= l.texts)) {
+    let end = start + size;
+    if !((1 <= size) & (size <= TEXT_BYTES)) {
+        return false;
+    }
+    if texts < end {
+        return false;
+    }
+    if !utf8::well_formed(&image[start..end]) {
         return false;
     }
     let definition = row.definition;

@@ -78,7 +78,7 @@ module _ (t : List ℕ) where
 
 -- ---- the definition of a qualified name
 pub one-name : OneName
-one-name image schema r t i j h k = one t (schema .names) (readable-good image schema r .1 .different) i j (h .name) (k .name) (h .at) (k .at) (h .text) (k .text)
+one-name image schema r t i j h k = one t (schema .names) (readable-good image schema r .different) i j (h .name) (k .name) (h .at) (k .at) (h .text) (k .text)
 
 -- it is looked up by its text
 by-text : (schema : CompiledSchema) (t : List ℕ) (s x : ℕ) → Join schema s x t → lookup-qualified schema s x ≡ then (find-text t (schema .names)) definition-of
@@ -89,7 +89,7 @@ pub defined-as-that-name : DefinedAsThatName
 unfolding lookup
 defined-as-that-name image schema r t s x i j h =
     by-text schema t s x j
-    ∙ ap (λ (o : Option Name). then o definition-of) (found t (schema .names) (readable-good image schema r .1 .different) i (h .name) (h .at) (h .text) ∙ sym (h .at))
+    ∙ ap (λ (o : Option Name). then o definition-of) (found t (schema .names) (readable-good image schema r .different) i (h .name) (h .at) (h .text) ∙ sym (h .at))
 
 pub no-name : NoName
 unfolding then
@@ -102,7 +102,7 @@ no-name schema t s x j free = by-text schema t s x j ∙ ap (λ (o : Option Name
 pub too-long : TooLong
 too-long image schema r t s x j l = no-name schema t s x j λ i h.
     let g = readable-good image schema r in
-    let good = at-all (GoodName (length (schema .names)) (length (schema .definitions))) (schema .names) i (g .1 .names-good) in
+    let good = at-all (GoodName (length (schema .names)) (length (schema .definitions))) (schema .names) i (g .names-good) in
     let size : length (h .name .text) ≤ 255 = rw (h .at) at good .text in
     omega (arith, ap length (h .text))
 

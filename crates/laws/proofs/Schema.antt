@@ -9,6 +9,7 @@ use lib.ListN.{length, drop, length-append, length-take, length-drop}
 use lib.Dec.{leb, eqb}
 use borrow.Author.Tests.{leb-true}
 use Rattle.rules.specs.Words.{NONE, words}
+use Rattle.rules.specs.Utf8.{well-formed}
 use Rattle.rules.specs.Syntax.{run, Name, TypeDef, CompiledSchema}
 use Rattle.rules.specs.Reader.{Rest, rest-at, Reader, from, repeat, times}
 use Rattle.rules.specs.Kinds.{definition-kind}
@@ -79,10 +80,9 @@ AliasHas Q n = AllOption (λ t. Q (run t)) (n .alias)
 abbrev pub DefinitionHas : (List ℕ → Type 0) → TypeDef → Type 0
 DefinitionHas Q d = Q (definition-words d)
 
--- what an image holds: a good schema, over its number of names and some number of strings, and the property of what stands in the pool
+-- what an image holds: a good schema, over its numbers of names and strings, and the property of what stands in the pool
 pub record Held (Q : List ℕ → Type 0) (s : CompiledSchema) : Type 0 where
-  pub strings : ℕ
-  pub good : GoodSchema (length (s .names)) strings s
+  pub good : GoodSchema (length (s .names)) (length (s .strings)) s
   pub aliases : All (AliasHas Q) (s .names)
   pub definitions : All (DefinitionHas Q) (s .definitions)
 
@@ -95,13 +95,13 @@ module _ (Q : List ℕ → Type 0) (image : List ℕ) (texts : ℕ) (pool : List
   name-row-gives : Gives (name-row image texts pool names strings definitions) (λ n ws. GoodName names definitions n × AliasHas Q n)
   unfolding name-row
   name-row-gives = gives.word-then (λ start. gives.word-then (λ size. gives.word-then (λ definition. gives.word-then (λ alias.
-      gives.rule-then _ _ (λ a. gives.rule-then _ _ (λ b. gives.last-gives _ (alias-gives alias) (λ t ws h.
-      let w = within-true 1 255 size (and-true-left _ _ a) in
-      (record { text = omega (arith, length-take size (drop start image), w .1); definition = b; alias = h .0 }, h .1))))))))
+      gives.rule-then _ _ (λ a. gives.rule-then _ _ (λ _. gives.rule-then _ _ (λ formed. gives.rule-then _ _ (λ b. gives.last-gives _ (alias-gives alias) (λ t ws h.
+      let w = within-true 1 255 size a in
+      (record { text = omega (arith, length-take size (drop start image), w .1); text-formed = formed; definition = b; alias = h .0 }, h .1))))))))))
 
-  string-row-gives : Gives (string-row image texts pool names strings definitions) (λ u ws. Unit {0})
+  string-row-gives : Gives (string-row image texts pool names strings definitions) (λ text ws. well-formed text ≡ true)
   unfolding string-row
-  string-row-gives = gives.word-then (λ start. gives.word-then (λ size. gives.rule-gives _))
+  string-row-gives = gives.word-then (λ start. gives.word-then (λ size. gives.rule-then _ _ (λ _. gives.rule-then _ _ (λ formed. gives.give-gives _ _ formed))))
 
   node-gives : (k : DefinitionKind) (start : ℕ) → Gives (definition-node image texts pool names strings definitions k start) (λ d ws. GoodDefinition names strings d × DefinitionHas Q d)
   unfolding definition-node
@@ -117,26 +117,29 @@ module _ (Q : List ℕ → Type 0) (image : List ℕ) (texts : ℕ) (pool : List
   unfolding definition-row
   definition-row-gives = gives.word-then (λ kind. gives.word-then (λ start. node-gives (definition-kind kind) start))
 
-  rows-give : names ≤ 1024 → definitions ≤ 256 → (name-words string-words definition-words : List ℕ)
+  rows-give : names ≤ 1024 → strings ≤ 1024 → definitions ≤ 256 → (name-words string-words definition-words : List ℕ)
       → Gives (rows image texts pool names strings definitions name-words string-words definition-words) (λ s ws. Held Q s)
   unfolding rows
-  rows-give n d name-words string-words definition-words =
+  rows-give n m d name-words string-words definition-words =
       gives.then-gives (gives.from-gives name-words 0 (times-all name-row-gives names)) (λ ns us h.
       gives.rule-then _ _ (λ different.
-      gives.then-gives (gives.from-gives string-words 0 (times-all string-row-gives strings)) (λ _ vs i.
+      gives.then-gives (gives.from-gives string-words 0 (times-all string-row-gives strings)) (λ ss vs i.
       gives.last-gives _ (gives.from-gives definition-words 0 (times-all definition-row-gives definitions)) (λ ds ws j.
       let read = h .1 .holds in
+      let texts = i .1 .holds in
       let bodies = j .1 .holds in
-      let good : GoodSchema names strings (record { names = ns; definitions = ds }) = record {
+      let held : CompiledSchema = record { names = ns; strings = ss; definitions = ds } in
+      let good : GoodSchema names strings held = record {
         few-names = omega (arith, read .1);
+        few-strings = omega (arith, texts .1);
         few-definitions = omega (arith, bodies .1);
         names-good = subst (λ (m : ℕ). All (GoodName names m) ns) (sym (bodies .1)) (map-all (λ n g. g .0) ns (read .0));
         different = different;
+        strings-good = texts .0;
         definitions-good = map-all (λ d g. g .0) ds (bodies .0);
       } in
       record {
-        strings = strings;
-        good = subst (λ (m : ℕ). GoodSchema m strings (record { names = ns; definitions = ds })) (sym (read .1)) good;
+        good = rw (read .1, texts .1) good;
         aliases = map-all (λ n g. g .1) ns (read .0);
         definitions = map-all (λ d g. g .1) ds (bodies .0);
       }))))
@@ -151,12 +154,12 @@ few-rows : (start stop width most : ℕ) → whole-rows start stop width most �
 unfolding whole-rows
 few-rows start stop width most e = leb-true ((stop - start) / width) most (and-true-right (leb start stop && eqb ((stop - start) % width) 0) (leb ((stop - start) / width) most) e)
 
--- of six tests the third and the last
-third-and-last : (a b c d e f : Bool) → (a && b && c && d && e && f) ≡ true → (c ≡ true) × (f ≡ true)
-third-and-last a b c d e f h =
+-- of six tests the third, the fourth and the last
+row-tests : (a b c d e f : Bool) → (a && b && c && d && e && f) ≡ true → (c ≡ true) × (d ≡ true) × (f ≡ true)
+row-tests a b c d e f h =
     let five = and-true-left (a && b && c && d && e) f h in
     let four = and-true-left (a && b && c && d) e five in
-    (and-true-right (a && b) c (and-true-left (a && b && c) d four), and-true-right (a && b && c && d && e) f h)
+    (and-true-right (a && b) c (and-true-left (a && b && c) d four), and-true-right (a && b && c) d four, and-true-right (a && b && c && d && e) f h)
 
 module _ (Q : List ℕ → Type 0) (image : List ℕ) (has : (start stop : ℕ) → Throughout Q (words (part image start stop))) where
   sections-give : (size : ℕ) (t : Trailer) → length image ≤ 65536 → good-trailer size t ≡ true → Gives (sections image size t) (λ s ws. Held Q s)
@@ -164,12 +167,13 @@ module _ (Q : List ℕ → Type 0) (image : List ℕ) (has : (start stop : ℕ) 
   sections-give size t l e =
       let pool : List ℕ = words (part image (t .pool-start) (t .definitions-start)) in
       let few : length pool ≤ most-words = omega (arith, words-length (part image (t .pool-start) (t .definitions-start)), part-length image (t .pool-start) (t .definitions-start)) in
-      let tests = third-and-last (eqb (t .format) 1) (eqb (t .size) size) (whole-rows (t .names-start) (t .strings-start) name-width 1024)
+      let tests = row-tests (eqb (t .format) 1) (eqb (t .size) size) (whole-rows (t .names-start) (t .strings-start) name-width 1024)
       (whole-rows (t .strings-start) (t .pool-start) string-width 1024) (whole-rows (t .pool-start) (t .definitions-start) 4 65536)
       (whole-rows (t .definitions-start) (size - 24) definition-width 256) e in
       let names-few = few-rows (t .names-start) (t .strings-start) name-width 1024 (tests .0) in
-      let definitions-few = few-rows (t .definitions-start) (size - 24) definition-width 256 (tests .1) in
-      rows-give Q image (t .names-start) pool _ _ _ few (has (t .pool-start) (t .definitions-start)) names-few definitions-few _ _ _
+      let strings-few = few-rows (t .strings-start) (t .pool-start) string-width 1024 (tests .1) in
+      let definitions-few = few-rows (t .definitions-start) (size - 24) definition-width 256 (tests .2) in
+      rows-give Q image (t .names-start) pool _ _ _ few (has (t .pool-start) (t .definitions-start)) names-few strings-few definitions-few _ _ _
 
   schema-gives : Gives (schema image (length image)) (λ s ws. Held Q s)
   unfolding schema
@@ -186,6 +190,6 @@ module _ (Q : List ℕ → Type 0) (image : List ℕ) (has : (start stop : ℕ) 
       go none q e = clash (cc)
       go (some p) q e = let same : p .0 ≡ s = cc in subst (Held Q) same (schema-gives .found (rest-at [] 0) (p .0) (p .1) q .holds)
 
--- what an image holds is good, over its number of names and some number of strings
-pub readable-good : (image : List ℕ) (s : CompiledSchema) → readable image ≡ some s → (strings : ℕ) × GoodSchema (length (s .names)) strings s
-readable-good image s e = let h = readable-held (λ _. Unit {0}) image (λ start stop at taken rest there. tt) s e in (h .strings, h .good)
+-- what an image holds is good, over its numbers of names and strings
+pub readable-good : (image : List ℕ) (s : CompiledSchema) → readable image ≡ some s → GoodSchema (length (s .names)) (length (s .strings)) s
+readable-good image s e = readable-held (λ _. Unit {0}) image (λ start stop at taken rest there. tt) s e .good

@@ -73,4 +73,4 @@ OneBit = (z : ℤ) → takes (range-of (ResolvedType.sub 1 1)) z ≡ true → (z
 
 -- the schema that a readable image holds is good throughout
 abbrev pub ReadableGood : Type 0
-ReadableGood = (image : List ℕ) (schema : CompiledSchema) → readable image ≡ some schema → (strings : ℕ) × GoodSchema (length (schema .names)) strings schema
+ReadableGood = (image : List ℕ) (schema : CompiledSchema) → readable image ≡ some schema → GoodSchema (length (schema .names)) (length (schema .strings)) schema

@@ -22,10 +22,10 @@ bytes-length (w ∷ ws) = omega (arith, bytes-length ws)
 module _ (image : List ℕ) (schema : CompiledSchema) (held : readable image ≡ some schema) (row : ℕ) where
   -- each call's end on a schema that an image holds
   pub project-ends : Ends Short (project-call row schema) (Written (length (schema .names)))
-  project-ends = let g = readable-good image schema held in project-call-ends (length (schema .names)) (g .0) schema (g .1) row
+  project-ends = project-call-ends (length (schema .names)) (length (schema .strings)) schema (readable-good image schema held) row
 
   pub signatures-ends : Ends Short (signatures-call row schema) (Listed (length (schema .names)))
-  signatures-ends = let g = readable-good image schema held in signatures-call-ends (length (schema .names)) (g .0) schema (g .1) row
+  signatures-ends = signatures-call-ends (length (schema .names)) (length (schema .strings)) schema (readable-good image schema held) row
 
 pub project-detail : ProjectDetailFits
 project-detail image schema held row r e = omega (arith, bytes-length (r .detail), project-ends image schema held row .refuses r e)

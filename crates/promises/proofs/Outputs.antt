@@ -49,7 +49,8 @@ module _ {image : List ℕ} {row : ℕ} {impl : ImplDef} {fs : List PortableFunc
   typed : Few 64 (TypedFunction names) fs
   typed =
       let g = readable-good image (p .schema) (p .is-schema) in
-      project-ends names (g .0) (p .schema) (g .1) impl (found-good names (g .0) (p .schema) (g .1) row impl (p .is-impl)) .gives (p .visits, fs) (p .is-projected) .good
+      let strings = length (p .schema .strings) in
+      project-ends names strings (p .schema) g impl (found-good names strings (p .schema) g row impl (p .is-impl)) .gives (p .visits, fs) (p .is-projected) .good
 
   small : Below 256 image → Small (functions-words fs)
   small b = functions-small names fs typed (small-functions (p .schema) (readable-small image b (p .schema) (p .is-schema)) row impl (p .visits, fs) (p .is-impl) (p .is-projected))

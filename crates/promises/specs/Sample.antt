@@ -46,10 +46,11 @@ named letter = record { text = letter ∷ []; definition = NONE; alias = none }
 abbrev pub held : CompiledSchema
 held = record {
   names = named 103 ∷ named 84 ∷ named 77 ∷ [];
+  strings = [];
   definitions = TypeDef.message (record { fields = [] }) ∷ TypeDef.trait (asks []) ∷ TypeDef.trait (asks (getter 0 ∷ []))
       ∷ TypeDef.implementation (implements 1 []) ∷ TypeDef.implementation (implements 2 (returns 0 1 ∷ [])) ∷ TypeDef.implementation (implements 2 (returns 0 0 ∷ [])) ∷ [];
 }
 
 -- a schema whose trait asks for two functions
 abbrev pub two-asked : CompiledSchema
-two-asked = record { names = []; definitions = TypeDef.message (record { fields = [] }) ∷ TypeDef.trait (asks (getter 0 ∷ getter 1 ∷ [])) ∷ [] }
+two-asked = record { names = []; strings = []; definitions = TypeDef.message (record { fields = [] }) ∷ TypeDef.trait (asks (getter 0 ∷ getter 1 ∷ [])) ∷ [] }

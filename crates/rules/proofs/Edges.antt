@@ -1,7 +1,7 @@
--- Every row of the two tables holds, by computation.
+-- Every row of the three tables holds, by computation.
 use mathlib.Core.Path.{refl}
 use Rattle.rules.specs.Computed.{computed}
-use Rattle.rules.specs.Edges.{table, guards, Answered}
+use Rattle.rules.specs.Edges.{table, guards, texts, Answered}
 
 pub p-cases : Answered table
 unfolding computed
@@ -10,3 +10,7 @@ p-cases = refl
 pub guarded : Answered guards
 unfolding computed
 guarded = refl
+
+pub texts-told : Answered texts
+unfolding computed
+texts-told = refl

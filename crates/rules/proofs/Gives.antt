@@ -93,11 +93,6 @@ module _ {B : Type 0} {Q : B → List ℕ → Type 0} where
   rule-then true f h = record { found = λ p b q e. h refl .found p b q e }
   rule-then false f h = record { found = λ p b q e. absurd (no-some (b, q) e) }
 
-pub rule-gives : (c : Bool) → Gives (rule c) (λ u ws. Unit {0})
-unfolding rule give
-rule-gives true = give-gives tt _ tt
-rule-gives false = record { found = λ p b q e. absurd (no-some (b, q) e) }
-
 pub below-gives : {n : ℕ} → Gives (below n) (λ w ws. (ws ≡ w ∷ []) × (w < n))
 unfolding below
 below-gives {n} = word-then (λ w. rule-then (ltb w n) _ (λ e. give-gives w _ (refl, ltb-true w n e)))

@@ -1,12 +1,15 @@
--- At the edges: document 01's P cases as one table, a question with its answer's words in each row, and rows that guard what is easy to get wrong.
+-- At the edges: document 01's P cases as one table, a question with its answer's words in each row; rows that guard what is easy to get wrong; texts at the ends of what characters can be.
 -- `Answered` is the claim that every row of a table holds.
-use Prim.Native.Nat.{ℕ, zero, suc, _^_, _-_, _/_, _%_}
+use Prim.Native.Nat.{ℕ, zero, suc, _^_, _+_, _-_, _/_, _%_}
 use mathlib.Core.Path.{_≡_}
+use mathlib.Core.Bool.{cond}
 use mathlib.Core.List.{List, [], _∷_, _++_, map}
 use mathlib.Core.Option.{Option, none, some}
 use lib.ListN.{length}
 use Rattle.rules.specs.Words.{NONE, bytes-of}
 use Rattle.rules.specs.Syntax.{ResolvedType, TypeExpr, Expr, FnBody, Param, ImplFnDef, TraitReturn, TraitFnDef, TypeDef, CompiledSchema, run}
+use Rattle.rules.specs.Options.{is-some}
+use Rattle.rules.specs.Image.{readable}
 use Rattle.rules.specs.Types.{BOOL, STRING, I64}
 use Rattle.rules.specs.Refusal.{Result, ok, err}
 use Rattle.rules.specs.Substitute.{Counted, too-large, done, substitute-type}
@@ -20,6 +23,7 @@ pub data Question : Type 0 where
   resolving : CompiledSchema → List (Param ResolvedType) → TypeExpr → Question
   projecting : ℕ → CompiledSchema → Question  -- an implementation's row
   printing : List ℕ → Question  -- what projone prints of an image, line after line
+  holding : List ℕ → List ℕ → List ℕ → Question  -- a text between others, as the only row of an image: a name's, then a string's
 
 -- typed: 0 and the value's words; refused: number, names, detail words
 unfoldable pub typed-words : Result PortableExpr → List ℕ
@@ -41,11 +45,29 @@ unfoldable pub ruled : List (List ℕ) → List ℕ
 ruled [] = []
 ruled (l ∷ ls) = length l ∷ (l ++ ruled ls)
 
+-- an image of its texts, one row of them and the trailer: the bytes before the row's text, the text, those behind it
+abbrev one-name : List ℕ → List ℕ → List ℕ → List ℕ
+one-name before text behind =
+    let texts = before ++ text ++ behind in
+    let n = length texts in
+    texts ++ bytes-of (length before ∷ length text ∷ NONE ∷ NONE ∷ n ∷ (n + 16) ∷ (n + 16) ∷ (n + 16) ∷ 1 ∷ (n + 40) ∷ [])
+
+abbrev one-string : List ℕ → List ℕ → List ℕ → List ℕ
+one-string before text behind =
+    let texts = before ++ text ++ behind in
+    let n = length texts in
+    texts ++ bytes-of (length before ∷ length text ∷ n ∷ n ∷ (n + 8) ∷ (n + 8) ∷ 1 ∷ (n + 32) ∷ [])
+
+-- readable: 0; not: 2
+unfoldable pub read-word : List ℕ → ℕ
+read-word image = cond (is-some (readable image)) 0 2
+
 unfoldable pub answer-to : Question → List ℕ
 answer-to (typing locals expected e) = typed-words (infer-expr (record { function = 7; locals = locals; fields = []; self-type = ResolvedType.named 0 }) e expected 3)
 answer-to (resolving schema params e) = counted-words (substitute-type schema params e)
 answer-to (projecting row schema) = projected-words (project-call row schema)
 answer-to (printing image) = ruled (projone image)
+answer-to (holding before text behind) = read-word (one-name before text behind) ∷ read-word (one-string before text behind) ∷ []
 
 -- Int and UInt of a number's 64 bits
 abbrev int : ℕ → Expr
@@ -71,6 +93,7 @@ U8 = ResolvedType.plain 1
 abbrev optional-alias : CompiledSchema
 optional-alias = record {
   names = record { text = 65 ∷ []; definition = 0; alias = none } ∷ record { text = 84 ∷ []; definition = NONE; alias = none } ∷ [];
+  strings = [];
   definitions = TypeDef.generic-alias (record { type-params = 1 ∷ []; target-type = TypeExpr.one 64 (TypeExpr.named 1) }) ∷ [];
 }
 
@@ -120,6 +143,7 @@ abbrev cyclic-alias : CompiledSchema
 cyclic-alias = record {
   names = record { text = 65 ∷ []; definition = 0; alias = none } ∷ record { text = 84 ∷ []; definition = NONE; alias = none }
       ∷ record { text = 66 ∷ []; definition = 0; alias = some (ResolvedType.plain 2) } ∷ [];
+  strings = [];
   definitions = TypeDef.generic-alias (record { type-params = 1 ∷ []; target-type = TypeExpr.generic 0 (TypeExpr.named 1) }) ∷ [];
 }
 
@@ -133,6 +157,7 @@ empty f = record { name = f; params = []; return-type = none; body = FnBody.bloc
 abbrev implements : List TraitFnDef → List ImplFnDef → CompiledSchema
 implements asks has = record {
   names = [];
+  strings = [];
   definitions = TypeDef.trait (record { name = 0; type-params = []; functions = asks }) ∷ TypeDef.message (record { fields = [] })
       ∷ TypeDef.implementation (record { trait-id = 0; trait-name = 0; target-type = ResolvedType.named 1; type-args = []; functions = has }) ∷ [];
 }
@@ -141,6 +166,7 @@ implements asks has = record {
 abbrev drops : CompiledSchema
 drops = record {
   names = record { text = 75 ∷ []; definition = 0; alias = none } ∷ record { text = 84 ∷ []; definition = NONE; alias = none } ∷ [];
+  strings = [];
   definitions = TypeDef.generic-alias (record { type-params = 1 ∷ []; target-type = TypeExpr.leaf BOOL }) ∷ [];
 }
 
@@ -169,6 +195,46 @@ guards =
     ∷ row (projecting 2 (implements (asked 4 ∷ []) (empty 5 ∷ empty 4 ∷ empty 4 ∷ []))) (9 ∷ 4 ∷ NONE ∷ [])
     ∷ row (projecting 2 (implements (asked 4 ∷ []) (empty 5 ∷ []))) (10 ∷ 5 ∷ NONE ∷ [])
     ∷ row (projecting 2 (implements (asked 4 ∷ asked 5 ∷ []) (empty 5 ∷ empty 4 ∷ []))) (0 ∷ 0 ∷ 2 ∷ 4 ∷ 0 ∷ 0 ∷ 0 ∷ 5 ∷ 0 ∷ 0 ∷ 0 ∷ [])
+    ∷ []
+
+-- a text that both rows may have, and one that neither may
+abbrev good : List ℕ → Row
+good text = row (holding [] text []) (0 ∷ 0 ∷ [])
+
+abbrev bad : List ℕ → Row
+bad text = row (holding [] text []) (2 ∷ 2 ∷ [])
+
+-- two bytes for one, three for two, surrogates, four for three, past 10FFFF, no character's start, cut; the last of one byte, the first and the last of two, three and four, those beside the surrogates; U+0000 and U+FEFF;
+-- a row that begins or ends inside a character; bytes beside the row, which are free; nothing inside a character, which is a string and no name
+abbrev pub texts : List Row
+texts =
+    bad (0xC0 ∷ 0x80 ∷ [])
+    ∷ bad (0xC1 ∷ 0xBF ∷ [])
+    ∷ bad (0xE0 ∷ 0x9F ∷ 0xBF ∷ [])
+    ∷ bad (0xED ∷ 0xA0 ∷ 0x80 ∷ [])
+    ∷ bad (0xED ∷ 0xBF ∷ 0xBF ∷ [])
+    ∷ bad (0xF0 ∷ 0x8F ∷ 0xBF ∷ 0xBF ∷ [])
+    ∷ bad (0xF4 ∷ 0x90 ∷ 0x80 ∷ 0x80 ∷ [])
+    ∷ bad (0xF5 ∷ 0x80 ∷ 0x80 ∷ 0x80 ∷ [])
+    ∷ bad (0x80 ∷ [])
+    ∷ bad (0xC2 ∷ [])
+    ∷ bad (0xE1 ∷ 0x80 ∷ [])
+    ∷ bad (0xF1 ∷ 0x80 ∷ 0x80 ∷ [])
+    ∷ good (0x7F ∷ [])
+    ∷ good (0xC2 ∷ 0x80 ∷ [])
+    ∷ good (0xDF ∷ 0xBF ∷ [])
+    ∷ good (0xE0 ∷ 0xA0 ∷ 0x80 ∷ [])
+    ∷ good (0xED ∷ 0x9F ∷ 0xBF ∷ [])
+    ∷ good (0xEE ∷ 0x80 ∷ 0x80 ∷ [])
+    ∷ good (0xEF ∷ 0xBF ∷ 0xBF ∷ [])
+    ∷ good (0xF0 ∷ 0x90 ∷ 0x80 ∷ 0x80 ∷ [])
+    ∷ good (0xF4 ∷ 0x8F ∷ 0xBF ∷ 0xBF ∷ [])
+    ∷ good (0x00 ∷ [])
+    ∷ good (0xEF ∷ 0xBB ∷ 0xBF ∷ [])
+    ∷ row (holding (0xC3 ∷ []) (0xA9 ∷ []) []) (2 ∷ 2 ∷ [])
+    ∷ row (holding [] (0xC3 ∷ []) (0xA9 ∷ [])) (2 ∷ 2 ∷ [])
+    ∷ row (holding (0xFF ∷ []) (0x41 ∷ []) (0xC3 ∷ [])) (0 ∷ 0 ∷ [])
+    ∷ row (holding (0xC3 ∷ []) [] (0xA9 ∷ [])) (2 ∷ 0 ∷ [])
     ∷ []
 
 -- every question of some rows has the answer beside it

@@ -6,6 +6,7 @@ use mathlib.Core.Option.{Option, none, some}
 use lib.ListN.{length, take, drop}
 use lib.Dec.{ltb, leb, eqb}
 use Rattle.rules.specs.Words.{NONE, within, words, same}
+use Rattle.rules.specs.Utf8.{well-formed}
 use Rattle.rules.specs.Syntax.{ResolvedType, TypeDef, Name, CompiledSchema}
 use Rattle.rules.specs.Reader.{Reader, rest-at, _>>=_, give, fail, rule, word, times, from}
 use Rattle.rules.specs.Kinds.{definition-kind}
@@ -70,31 +71,38 @@ good-trailer size t =
 
 -- over the image, the length of its texts, the pool's words and the numbers of rows
 module _ (image : List ℕ) (texts : ℕ) (pool : List ℕ) (names strings definitions : ℕ) where
-  -- a text of so many bytes inside the texts
+  -- whether a text of so many bytes lies inside the texts, and its bytes
   abbrev pub text-inside : ℕ → ℕ → Bool
   text-inside start size = leb (start + size) texts
+
+  abbrev pub text-at : ℕ → ℕ → List ℕ
+  text-at start size = take size (drop start image)
 
   unfoldable pub alias-at : ℕ → Reader (Option ResolvedType)
   alias-at start = cond (eqb start NONE) (give none) (from pool start (resolved-type names) >>= λ t. give (some t))
 
-  -- a text of 1 to 255 bytes inside the texts, a definition that exists or NONE, an alias's type or NONE
+  -- a text of 1 to 255 bytes inside the texts, well-formed by itself; a definition that exists or NONE; an alias's type or NONE
   unfoldable pub name-row : Reader Name
   name-row = do
     start ← word
     size ← word
     definition ← word
     alias ← word
-    _ ← rule (within 1 255 size && text-inside start size)
+    _ ← rule (within 1 255 size)
+    _ ← rule (text-inside start size)
+    _ ← rule (well-formed (text-at start size))
     _ ← rule (ltb definition definitions || eqb definition NONE)
     t ← alias-at alias
-    give (record { text = take size (drop start image); definition = definition; alias = t })
+    give (record { text = text-at start size; definition = definition; alias = t })
 
-  -- a text inside the texts, of any length; nothing reads it
-  unfoldable pub string-row : Reader (Unit {0})
+  -- a text inside the texts, of any length, well-formed by itself
+  unfoldable pub string-row : Reader (List ℕ)
   string-row = do
     start ← word
     size ← word
-    rule (text-inside start size)
+    _ ← rule (text-inside start size)
+    _ ← rule (well-formed (text-at start size))
+    give (text-at start size)
 
   unfoldable pub definition-node : DefinitionKind → ℕ → Reader TypeDef
   definition-node DefinitionKind.Other start = give TypeDef.other
@@ -115,9 +123,9 @@ module _ (image : List ℕ) (texts : ℕ) (pool : List ℕ) (names strings defin
   rows name-words string-words definition-words = do
     ns ← from name-words 0 (times names name-row)
     _ ← rule (different-texts ns)
-    _ ← from string-words 0 (times strings string-row)
+    ss ← from string-words 0 (times strings string-row)
     ds ← from definition-words 0 (times definitions definition-row)
-    give (record { names = ns; definitions = ds })
+    give (record { names = ns; strings = ss; definitions = ds })
 
 -- the sections behind a good trailer
 unfoldable pub sections : List ℕ → ℕ → Trailer → Reader CompiledSchema

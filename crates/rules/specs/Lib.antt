@@ -1,4 +1,5 @@
 pub mod Words
+pub mod Utf8
 pub mod Syntax
 pub mod Options
 pub mod Reader

@@ -7,7 +7,7 @@ use lib.ListN.{length, getElem?}
 use Rattle.rules.specs.Words.{NONE}
 use Rattle.laws.proofs.Schema.{readable-good}
 use Rattle.laws.proofs.Qualified.{found, one-name}
-use Rattle.image_texts.specs.Rows.{row-text, find-row}
+use Rattle.image_texts.specs.Rows.{find-row}
 use Rattle.image_texts.proofs.Names.{find-rule}
 use Rattle.subst_names.specs.OneRow.{OneRow}
 use Rattle.subst_names.proofs.NamesLaws.{there, in-rows}
@@ -22,5 +22,5 @@ one-row image l s cut o t i h e =
     let at : getElem? (s .names) j ≡ some (n .0) =
     ap (λ (m : ℕ). getElem? (s .names) (find-row image start m t)) (sym (o .names))
     ∙ sym (find-rule image start (s .names) t (in-rows cut o) few)
-    ∙ found t (s .names) (readable-good image s (o .read) .1 .different) i (n .0) (n .1) text in
+    ∙ found t (s .names) (readable-good image s (o .read) .different) i (n .0) (n .1) text in
     one-name image s (o .read) t j i (record { name = n .0; at = at; text = text }) (record { name = n .0; at = n .1; text = text })

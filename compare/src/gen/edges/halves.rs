@@ -159,7 +159,7 @@ impl Edges {
 
 /// A trait function with qualified names for parameters, and an implementation with what they stand for. Halves that are no names
 /// of the list stand before it, without a definition.
-fn asking(names: &[(&str, u32)], asked: &[(&str, &str, u32)]) -> Rich {
+pub(super) fn asking(names: &[(&str, u32)], asked: &[(&str, &str, u32)]) -> Rich {
     let expected: Vec<(u32, Words)> = asked.iter().map(|(.., definition)| (P, vec![48, *definition])).collect();
     let mut rich = with_body(&expected, None, vec![vec![3, 7, X, 6, 7, X, 6]]);
     let halves = asked.iter().flat_map(|(left, right, _)| [(*left, NONE), (*right, NONE)]);

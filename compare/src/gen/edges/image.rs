@@ -90,6 +90,7 @@ impl Edges {
         ] {
             self.add(format!("text-{label}"), rows(&names, &strings), 0);
         }
+        // Neither of these texts is UTF-8.
         let mut other = tiny();
         other.model.names[X as usize].text = vec![0, 255, 128, 46];
         other.model.strings[1] = vec![0xc3, 0x28];

@@ -7,13 +7,14 @@ mod lone;
 mod reported;
 mod stack;
 mod traits;
+mod utf8;
 
 use super::bounds::BOUNDS;
-pub use halves::NOTHING;
 use super::model::{assemble, Words, NONE};
 use super::rich::{implement, Rich};
 use super::rng::Rng;
 use super::tiny::{padded, tiny, with_body, IMPL, P, X};
+pub use halves::NOTHING;
 
 pub struct Edge {
     pub label: String,
@@ -46,6 +47,7 @@ pub fn edges() -> Vec<Edge> {
     edges.reported();
     edges.stacks();
     edges.halves();
+    edges.utf8();
     edges.0
 }
 

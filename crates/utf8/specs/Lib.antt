@@ -1,0 +1,3 @@
+pub mod Due
+pub mod Ascii
+pub mod Encoding
