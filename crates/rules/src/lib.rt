@@ -1,4 +1,4 @@
-// The rules of document 01 stand in specs/; here is the vocabulary that the code shares with them.
+// The rules of documents 01 and 02 stand in specs/; here is the vocabulary that the code shares with them.
 pub mod bounds;
 pub mod ids;
 pub mod kinds;
