@@ -60,7 +60,7 @@ bool fruscalitu_readable(const uint8_t *image, size_t image_length);
  * The numbers, in the order in which they are asked; each is given exactly when
  *
  *   1   detail has fewer than FRUSCALITU_DETAIL_BYTES bytes
- *   2   the image breaks a rule or a bound
+ *   2   the image breaks a rule or a bound; a name or a string that is not UTF-8 does
  *   3   the number is no implementation's row
  *   4   UnknownTrait: the trait is absent or not a trait's row; second: the trait's name
  *   6   SignatureMismatch of type-argument counts; function: the trait's name; detail: 0, expected, found

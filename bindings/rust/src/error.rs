@@ -8,7 +8,7 @@ use crate::{NameRow, TypeRun};
 /// Why a trait implementation cannot be projected portably.
 #[derive(Debug, Clone, PartialEq, Eq)]
 pub enum PortableFunctionError {
-    /// 2, added: a rule or a bound of the image is broken.
+    /// 2, added: a rule or a bound of the image is broken; a name or a string that is not UTF-8 breaks one.
     UnreadableImage,
     /// 3, added: the number is no implementation's row.
     NoImplementation,
