@@ -27,7 +27,7 @@ row-kept : (names : ℕ) (old new : List ℕ) (at : ℕ) (p : Param ResolvedType
 row-kept names old new at p i k r = record {
   inside = i;
   name = k at (omega arith) ∙ r .name;
-  count = k (at + 1) (omega arith) ∙ r .count;
+  noted = k (at + 1) (omega arith) ∙ r .noted;
   words = λ j h. r .words j h ∙ sym (k (at + 2 + j) (omega (arith, r .stored .short)));
   stored = r .stored;
 }

@@ -14,7 +14,7 @@ use Rattle.laws.specs.Runs.{expr-words}
 use Rattle.rules.proofs.Clash.{clash}
 use Rattle.type_words.specs.declared.HeldType.{HeldType}
 use Rattle.type_words.specs.declared.MaybeType.{MaybeType}
-use Rattle.type_words.specs.Runs.{Runs}
+use Rattle.type_words.specs.Runs.{Made}
 use Rattle.type_words.specs.Holds.{Holds, MaybeHolds}
 use Rattle.type_words.proofs.Maybe.{some-of, none-of}
 use Rattle.type_words.proofs.Trees.{plain-holds}
@@ -40,7 +40,7 @@ unfolding expr-words
 words-of s = record { code = head (s .words-at); known = s .nested .good; first = inside (tail (s .words-at)); low-at = head (tail (s .words-at)); high-at = head (tail (tail (s .words-at))) }
 
 -- a literal's own type, by its code
-pub own-held : (names c k : ℕ) {h : HeldType} → literal-own c ≡ ResolvedType.plain k → k < 14 → Runs h (k ∷ []) → Holds names h (literal-own c)
+pub own-held : (names c k : ℕ) {h : HeldType} → literal-own c ≡ ResolvedType.plain k → k < 14 → Made h (k ∷ []) false → Holds names h (literal-own c)
 own-held names c k e l r = rw e (plain-holds names r (primitive-in k l))
 
 pub own-int : (c : ℕ) → c ≡ 0 → literal-own c ≡ ResolvedType.plain 8

@@ -8,7 +8,7 @@ use Rattle.rules.specs.Syntax.{ResolvedType}
 use Rattle.rules.specs.Fits.{literal-fits, literal-own}
 use Rattle.type_words.specs.declared.HeldType.{HeldType}
 use Rattle.type_words.specs.declared.MaybeType.{MaybeType}
-use Rattle.type_words.specs.Runs.{Runs}
+use Rattle.type_words.specs.Runs.{Made}
 use Rattle.type_words.specs.Holds.{MaybeHolds, Each}
 use Rattle.codes.proofs.Codes.{primitive-in}
 use Rattle.type_words.proofs.Trees.{plain-holds}
@@ -29,7 +29,7 @@ module _ (names c n : ℕ) (m : MaybeType) where
 
   -- its own type
   pub own : (k : ℕ) (h : HeldType) (r : MaybeType) (o : Option ResolvedType) → MaybeHolds names m o → m .some ≡ false
-      → literal-own c ≡ ResolvedType.plain k → k < 14 → Runs h (k ∷ []) → (r .some ≡ true) × (r .ty ≡ h) → MaybeHolds names r (literal-type c n o)
+      → literal-own c ≡ ResolvedType.plain k → k < 14 → Made h (k ∷ []) false → (r .some ≡ true) × (r .ty ≡ h) → MaybeHolds names r (literal-type c n o)
   unfolding literal-type
   own k h r none e s q l w a = (a .0, rw (q, a .1) (plain-holds names w (primitive-in k l)))
   own k h r (some t) e s q l w a = absurd (false≢true (sym s ∙ e .0))

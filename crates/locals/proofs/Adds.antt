@@ -1,7 +1,7 @@
 -- Laws: a row written behind the others.
 use Prim.Native.Nat.{ℕ, _+_, _*_, _<_, _≤_}
 use native.Mathlib.Omega.{arith}
-use mathlib.Core.Path.{_≡_, sym, ap, subst, _∙_}
+use mathlib.Core.Path.{_≡_, sym, ap, ap₂, subst, _∙_}
 use mathlib.Core.List.{List, [], _∷_, _++_}
 use borrow.Author.Count.{below-more}
 use lib.ListN.{length, getD, set, length-set}
@@ -9,6 +9,7 @@ use lib.Seq.{getD-set-same, getD-set-other}
 use Rattle.rules.specs.Syntax.{ResolvedType, run, Param}
 use Rattle.type_words.specs.declared.HeldType.{HeldType}
 use Rattle.type_words.specs.Runs.{held-run}
+use Rattle.type_words.specs.Notes.{note}
 use Rattle.type_words.specs.Holds.{Holds}
 use Rattle.type_words.proofs.Runs.{run-word}
 use Rattle.locals.specs.Rows.{Row, Rows}
@@ -42,25 +43,25 @@ module _ (rows : ℕ) (names words words′ lens : List ℕ) (i x n : ℕ) (h : 
     name = getD-set-other names i k x 0 (λ q. omega arith) ∙ r .name;
     named = omega (arith, length-set names i x, r .named);
     counted = omega (arith, length-set lens i n, r .counted);
-    count = getD-set-other lens i k n 0 (λ q. omega arith) ∙ r .count;
+    noted = getD-set-other lens i k n 0 (λ q. omega arith) ∙ r .noted;
     room = omega (arith, f .size, r .room);
     words-at = λ j m. r .words-at j m ∙ sym (f .kept (64 * k + j) (omega (arith, r .stored .short)));
     stored = r .stored;
   }
 
-  row-new : (t : ResolvedType) → Holds rows h t → i < 64 → i < length names → i < length lens → n ≡ length (held-run h) → n ≤ 64
+  row-new : (t : ResolvedType) → Holds rows h t → i < 64 → i < length names → i < length lens → n ≡ note (length (held-run h)) (h .poison)
       → Row rows (set names i x) words′ (set lens i n) i (record { name = x; ty = t })
-  row-new t p few a b e s =
+  row-new t p few a b e =
       let k : length (held-run h) ≡ length (run t) = ap length (p .run) in
       record {
         few = few;
         name = getD-set-same names i x 0 a;
         named = omega (arith, length-set names i x);
         counted = omega (arith, length-set lens i n);
-        count = getD-set-same lens i n 0 b ∙ e ∙ k;
+        noted = getD-set-same lens i n 0 b ∙ e ∙ ap₂ note k (p .poison);
         room = omega (arith, f .size, f .room);
-        words-at = λ j m. ap (λ (xs : List ℕ). getD xs j 0) (sym (p .run)) ∙ f .copied j (omega (arith, k)) (omega (arith, k));
-        stored = record { good = p .good; short = omega (arith, k) };
+        words-at = λ j m. ap (λ (xs : List ℕ). getD xs j 0) (sym (p .run)) ∙ f .copied j (omega (arith, k)) (omega (arith, p .count, p .small));
+        stored = record { good = p .good; short = omega (arith, p .count, p .small) };
       }
 
   before-end : (k : ℕ) (ps : List (Param ResolvedType)) → Rows rows names words lens i k ps → k ≤ i
@@ -73,6 +74,6 @@ module _ (rows : ℕ) (names words words′ lens : List ℕ) (i x n : ℕ) (h : 
   rows-more p r k [] e = (subst (λ (j : ℕ). Row rows (set names i x) words′ (set lens i n) j p) (sym e) r, omega arith)
   rows-more p r k (q ∷ ps) w = (row-kept k q (let l = before-end (k + 1) ps (w .1) in omega arith) (w .0), rows-more p r (k + 1) ps (w .1))
 
-  pub added : (ps : List (Param ResolvedType)) (t : ResolvedType) → i < 64 → i < length names → i < length lens → n ≡ length (held-run h) → n ≤ 64
+  pub added : (ps : List (Param ResolvedType)) (t : ResolvedType) → i < 64 → i < length names → i < length lens → n ≡ note (length (held-run h)) (h .poison)
       → Rows rows names words lens i 0 ps → Holds rows h t → Rows rows (set names i x) words′ (set lens i n) (i + 1) 0 (ps ++ record { name = x; ty = t } ∷ [])
-  added ps t few a b e s w p = rows-more (record { name = x; ty = t }) (row-new t p few a b e s) 0 ps w
+  added ps t few a b e w p = rows-more (record { name = x; ty = t }) (row-new t p few a b e) 0 ps w

@@ -5,17 +5,19 @@ use mathlib.Core.List.{List, [], _∷_}
 use mathlib.Core.Option.{none, some}
 use lib.ListN.{length, getD}
 use Rattle.rules.specs.Syntax.{ResolvedType, run, Param}
+use Rattle.rules.specs.Types.{contains-poison}
 use Rattle.rules.specs.Infer.{find-last}
 use Rattle.rules.specs.Good.{Stored}
+use Rattle.type_words.specs.Notes.{note}
 use Rattle.type_from_pool.specs.Copies.{Copied}
 
--- over the number of name rows and the table: row i is a local's name, the count of its type's words, and these words
+-- over the number of name rows and the table: row i is a local's name, the note of its type, and the type's words
 pub record Row (rows : ℕ) (names words lens : List ℕ) (i : ℕ) (p : Param ResolvedType) : Type 0 where
   pub few : i < 64
   pub name : getD names i 0 ≡ p .name
   pub named : i < length names
   pub counted : i < length lens
-  pub count : getD lens i 0 ≡ length (run (p .ty))
+  pub noted : getD lens i 0 ≡ note (length (run (p .ty))) (contains-poison (p .ty))
   pub room : 64 * i + 64 ≤ length words
   pub words-at : Copied words (64 * i) (run (p .ty)) (length (run (p .ty)))
   pub stored : Stored rows (p .ty)

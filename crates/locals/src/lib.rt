@@ -1,9 +1,13 @@
-// The locals in view: a lent table of 64 rows. A local's type has 64 words; its name and the count of its words stand beside.
+// The locals in view: a lent table of 64 rows. A local's type has 64 words; its name stands beside, and in `lens` a note of
+// its type (`type_words::notes`).
 use rules::bounds::LOCAL_ROWS;
 use rules::bounds::TYPE_WORDS;
 use rules::ids::NameId;
 use type_words::HeldType;
 use type_words::MaybeType;
+use type_words::notes::note_of;
+use type_words::notes::noted_count;
+use type_words::notes::noted_poison;
 ghost use Prim.Native.Nat.{ℕ, _<_, _≤_};
 ghost use mathlib.Core.List.{List};
 ghost use lib.ListN.{length};
@@ -45,7 +49,8 @@ pub fn local_type(words: &[u32], lens: &[u32], i: usize) -> HeldType
     if lens.len() <= i {
         return HeldType::empty();
     }
-    let n = lens[i] as usize;
+    let note = lens[i];
+    let n = noted_count(note);
     if TYPE_WORDS < n {
         return HeldType::empty();
     }
@@ -58,7 +63,11 @@ pub fn local_type(words: &[u32], lens: &[u32], i: usize) -> HeldType
         run[k] = words[TYPE_WORDS * i + k];
         k += 1;
     }
-    HeldType { words: run, len: n }
+    HeldType {
+        words: run,
+        len: n,
+        poison: noted_poison(note),
+    }
 }
 
 // The type of the last local of this name.
@@ -97,8 +106,7 @@ pub fn add_local(
     requires { ⌜ (i < 64) × (64 ≤ length (now names)) × (4096 ≤ length (now words)) × (64 ≤ length (now lens)) ⌝ }
     ensures { λ r. ⌜ AddsLocal (now (names .entry)) (now (names .exit)) (now (words .entry)) (now (words .exit)) (now (lens .entry)) (now (lens .exit)) i name ty ⌝ }
 {
-    let n = ty.count();
     names[i] = name.0;
-    lens[i] = n as u32;
+    lens[i] = note_of(ty);
     fill_row(words, i, ty);
 }

@@ -1,7 +1,7 @@
 -- Types added behind words that stand: what each step makes of its callees' answers, over any outcome. Assumes nothing.
 use Prim.Native.Nat.{ℕ, suc, _+_, _<_, _≤_}
-use mathlib.Core.Path.{_≡_, refl, sym, ap, subst, subst₂, _∙_}
-use mathlib.Core.Bool.{Bool, true, false, false≢true, _&&_}
+use mathlib.Core.Path.{_≡_, refl, sym, ap, ap₂, subst, _∙_}
+use mathlib.Core.Bool.{Bool, true, false, false≢true, _&&_, _||_}
 use mathlib.Core.Logic.{_⊎_, inl, inr}
 use mathlib.Core.List.{List, [], _∷_, _++_, append-assoc}
 use native.Mathlib.Omega.{arith}
@@ -9,17 +9,23 @@ use borrow.Author.Tests.{le-leb, leb-true, leb-false}
 use lib.ListN.{length, length-append}
 use lib.Dec.{leb}
 use Rattle.rules.specs.Syntax.{ResolvedType, run}
+use Rattle.rules.specs.Types.{contains-poison}
 use Rattle.rules.specs.Kinds.{type-kind}
 use Rattle.rules.specs.declared.kinds.TypeKind.{TypeKind}
 use Rattle.rules.specs.Substitute.{Counted, too-large, done, after}
 use Rattle.laws.specs.Visits.{short}
 use Rattle.image_words.proofs.Steps.{true-false}
 use Rattle.type_words.specs.Runs.{held-run, Runs, Grows, Grown}
-use Rattle.type_words.proofs.Runs.{grows-at}
+use Rattle.type_words.proofs.Runs.{grows-at, runs-as}
+use Rattle.type_words.proofs.Trees.{holds}
 use Rattle.subst_leaves.specs.declared.Resolved.{Resolved}
 use Rattle.subst_leaves.specs.Says.{Fails, Says}
 use Rattle.subst.specs.declared.cycle.End.{End}
 use Rattle.subst.specs.Lent.{resolved, Added, NoRoom, Adds}
+
+-- poison in one part or in the other
+abbrev pub also : Bool → End → End
+also p r = record { ok = r .ok; poison = p || r .poison; next = r .next; left = r .left; len = r .len }
 
 -- an outcome whose type has at most 64 words
 abbrev pub Fits : Counted ResolvedType → Type 0
@@ -49,7 +55,7 @@ no-room-fails left (done v t) f (inr w) = let s : length (run t) ≤ 64 = f v t 
 
 -- behind no words at all, what was added is the answer
 pub adds-says : {names left n : ℕ} {o : Counted ResolvedType} {words : List ℕ} {r : End} → Fits o → Adds names left n o [] words r → Says names left n o (resolved r words)
-adds-says {left = left} {o = o} fits h = record {
+adds-says {names} {left} {o = o} fits h = record {
   ok = λ e.
       let a = h .ok e in
       record {
@@ -58,15 +64,15 @@ adds-says {left = left} {o = o} fits h = record {
         is = a .is;
         next = a .next;
         spent = a .spent;
-        holds = record { run = a .runs .run; count = a .runs .count; small = a .runs .small; good = a .good };
+        holds = holds names (a .runs) (a .poison) (a .good);
       };
   no = λ e. no-room-fails left o fits (h .no e);
 }
 
 -- a type by itself, put behind the words
 module _ {names left n : ℕ} {o : Counted ResolvedType} {b : Resolved} {before words : List ℕ} {g : Grown} (s : Says names left n o b) (grows : Grows (before ++ held-run (b .ty)) g) where
-  pub put-behind : g .ty .words ≡ words → (r : End) → r .ok ≡ (b .ok && g .ok) → r .next ≡ b .next → r .left ≡ b .left → r .len ≡ g .ty .len → Adds names left n o before words r
-  put-behind w r e m x y = record { ok = λ z. yes (b .ok) (g .ok) refl refl (sym e ∙ z); no = λ z. no (b .ok) (g .ok) refl refl (sym e ∙ z) }
+  pub put-behind : g .ty .words ≡ words → (r : End) → r .ok ≡ (b .ok && g .ok) → r .poison ≡ b .ty .poison → r .next ≡ b .next → r .left ≡ b .left → r .len ≡ g .ty .len → Adds names left n o before words r
+  put-behind w r e d m x y = record { ok = λ z. yes (b .ok) (g .ok) refl refl (sym e ∙ z); no = λ z. no (b .ok) (g .ok) refl refl (sym e ∙ z) }
     where
       yes : (p q : Bool) → b .ok ≡ p → g .ok ≡ q → (p && q) ≡ true → Added names left n o before words r
       yes true true u v z =
@@ -78,7 +84,8 @@ module _ {names left n : ℕ} {o : Counted ResolvedType} {b : Resolved} {before 
             is = a .is;
             next = m ∙ a .next;
             spent = omega (arith, x, a .spent);
-            runs = subst₂ (λ (ws : List ℕ) (k : ℕ). Runs (record { words = ws; len = k }) (before ++ run (a .ty))) w (sym y) runs;
+            runs = runs-as runs _ (sym w) y;
+            poison = d ∙ a .holds .poison;
             good = a .holds .good;
           }
       yes true false u v z = absurd (false≢true z)
@@ -116,15 +123,15 @@ module _ (names left m : ℕ) (o h : Counted ResolvedType) (c : ℕ) (a : Resolv
     unfolding short
     done-short v t l = ap (λ (b : Bool). elim b as (λ _. Counted ResolvedType) [ true ↦ done v t | false ↦ too-large ]) (le-leb (length (run t)) 64 l)
 
-    pub two-adds : type-kind c ≡ TypeKind.Two → (k : ℕ) (before words : List ℕ) (r : End) → Adds names (a .left) k h (before ++ (c ∷ first-run)) words r → Adds names (suc left) k (after o second) before words r
-    unfolding run after short
+    pub two-adds : type-kind c ≡ TypeKind.Two → (k : ℕ) (before words : List ℕ) (r : End) → Adds names (a .left) k h (before ++ (c ∷ first-run)) words r → Adds names (suc left) k (after o second) before words (also (a .ty .poison) r)
+    unfolding run after short contains-poison
     two-adds kind k before words r q = record {
       ok = λ z.
           let p = s .ok e in
           let b = q .ok z in
           let t : ResolvedType = ResolvedType.two c (p .ty) (b .ty) in
           let joined : (before ++ (c ∷ run (p .ty))) ++ run (b .ty) ≡ before ++ (c ∷ (run (p .ty) ++ run (b .ty))) = append-assoc before (c ∷ run (p .ty)) (run (b .ty)) in
-          let runs : Runs (record { words = words; len = r .len }) (before ++ (c ∷ (run (p .ty) ++ run (b .ty)))) = subst (Runs (record { words = words; len = r .len })) joined (b .runs) in
+          let runs : Runs (record { words = words; len = r .len; poison = a .ty .poison || r .poison }) (before ++ (c ∷ (run (p .ty) ++ run (b .ty)))) = subst (Runs _) joined (runs-as (b .runs) _ refl refl) in
           let small : length (c ∷ (run (p .ty) ++ run (b .ty))) ≤ 64 = omega (arith, runs .count, runs .small, length-append before (c ∷ (run (p .ty) ++ run (b .ty)))) in
           record {
             visits = suc (p .visits + b .visits);
@@ -133,6 +140,7 @@ module _ (names left m : ℕ) (o h : Counted ResolvedType) (c : ℕ) (a : Resolv
             next = b .next;
             spent = omega (arith, p .spent, b .spent);
             runs = runs;
+            poison = ap₂ _||_ (p .holds .poison) (b .poison);
             good = (kind, p .holds .good, b .good);
           };
       no = λ z. subst (NoRoom (suc left) before) (sym is) (go h (q .no z));

@@ -40,7 +40,7 @@ use Rattle.subst_parts.proofs.Nodes.{of-one, of-fixed, of-two, of-generic}
 use Rattle.subst.specs.declared.cycle.End.{End}
 use Rattle.subst.specs.Lent.{resolved, NoRoom, Adds}
 use Rattle.subst.proofs.Generic.{is-expanded, an-alias}
-use Rattle.subst.proofs.Added.{adds-says, no-room-fails, put-behind, two-adds, two-fits, first-no}
+use Rattle.subst.proofs.Added.{also, adds-says, no-room-fails, put-behind, two-adds, two-fits, first-no}
 
 -- a run is the words below its count
 pub held : (h : HeldType) → take (h .len) (h .words) ≡ held-run h
@@ -179,32 +179,32 @@ module _ (image : List ℕ) (l : Layout) (at left : ℕ) where
 
     -- the words of a node and of its first part, where that is ok
     module _ (ok : a .ok ≡ true) (w′ : List ℕ) (g : Longer) (z : left ≡ 0 → ⊥) where
-      pub one-arm : kind-at image l at ≡ TypeKind.One → Substitutes image l (at + 1) (left - 1) params a → (c : ℕ) → c ≡ getD (pool-words image l) at 0 → Grows (c ∷ take (a .ty .len) (a .ty .words)) (lent g w′)
-          → Substitutes image l at left params (record { ok = g .ok; next = a .next; left = a .left; ty = record { words = w′; len = g .len } })
+      pub one-arm : kind-at image l at ≡ TypeKind.One → Substitutes image l (at + 1) (left - 1) params a → (c : ℕ) → c ≡ getD (pool-words image l) at 0 → Grows (c ∷ take (a .ty .len) (a .ty .words)) (lent g w′ (a .ty .poison))
+          → Substitutes image l at left params (record { ok = g .ok; next = a .next; left = a .left; ty = record { words = w′; len = g .len; poison = a .ty .poison } })
       unfolding plain-node
       one-arm is q c e grows =
           of-one image l at left params _ z is
           (λ s o f le ps w k x n y.
           let p = one-stands k x y in
-          one-end (l .names .rows) (left - 1) n (plain-depth s f ps x) (ResolvedType.one k) a (q s o f le ps w x n (p .part)) ok (lent g w′)
-          (λ t h. one-built (subst₂ (λ (c : ℕ) (r : List ℕ). Grows (c ∷ r) (lent g w′)) (e ∙ p .code) (held (a .ty)) grows) h (p .kind)))
+          one-end (l .names .rows) (left - 1) n (plain-depth s f ps x) (ResolvedType.one k) a (q s o f le ps w x n (p .part)) ok (lent g w′ (a .ty .poison))
+          (λ t h. one-built h refl (subst₂ (λ (c : ℕ) (r : List ℕ). Grows (c ∷ r) (lent g w′ (a .ty .poison))) (e ∙ p .code) (held (a .ty)) grows) (p .kind)))
 
       pub fixed-arm : kind-at image l at ≡ TypeKind.Fixed → Substitutes image l (at + 1 + 1 + 1) (left - 1) params a
-          → (low high : ℕ) → low ≡ getD (pool-words image l) (at + 1) 0 → high ≡ getD (pool-words image l) (at + 1 + 1) 0 → Grows (66 ∷ low ∷ high ∷ take (a .ty .len) (a .ty .words)) (lent g w′)
-          → Substitutes image l at left params (record { ok = g .ok; next = a .next; left = a .left; ty = record { words = w′; len = g .len } })
+          → (low high : ℕ) → low ≡ getD (pool-words image l) (at + 1) 0 → high ≡ getD (pool-words image l) (at + 1 + 1) 0 → Grows (66 ∷ low ∷ high ∷ take (a .ty .len) (a .ty .words)) (lent g w′ (a .ty .poison))
+          → Substitutes image l at left params (record { ok = g .ok; next = a .next; left = a .left; ty = record { words = w′; len = g .len; poison = a .ty .poison } })
       unfolding plain-node
       fixed-arm is q low high e₁ e₂ grows =
           of-fixed image l at left params _ z is
           (λ s o f le ps w c d x n y.
           let p = fixed-stands c d x y in
-          one-end (l .names .rows) (left - 1) n (plain-depth s f ps x) (ResolvedType.fixed c d) a (q s o f le ps w x n (p .part)) ok (lent g w′)
-          (λ t h. fixed-built (subst (λ (r : List ℕ). Grows r (lent g w′)) (words low high c d (e₁ ∙ p .low-is) (e₂ ∙ p .high-is)) grows) h))
+          one-end (l .names .rows) (left - 1) n (plain-depth s f ps x) (ResolvedType.fixed c d) a (q s o f le ps w x n (p .part)) ok (lent g w′ (a .ty .poison))
+          (λ t h. fixed-built h refl (subst (λ (r : List ℕ). Grows r (lent g w′ (a .ty .poison))) (words low high c d (e₁ ∙ p .low-is) (e₂ ∙ p .high-is)) grows)))
         where
           words : (low high c d : ℕ) → low ≡ c → high ≡ d → 66 ∷ low ∷ high ∷ take (a .ty .len) (a .ty .words) ≡ 66 ∷ c ∷ d ∷ held-run (a .ty)
           words low high c d e f = rw (e, f, held (a .ty))
 
       -- no room for the first part behind its code
-      pub two-full : kind-at image l at ≡ TypeKind.Two → Substitutes image l (at + 1) (left - 1) params a → (c : ℕ) → Grows (c ∷ take (a .ty .len) (a .ty .words)) (lent g w′) → g .ok ≡ false
+      pub two-full : kind-at image l at ≡ TypeKind.Two → Substitutes image l (at + 1) (left - 1) params a → (c : ℕ) → Grows (c ∷ take (a .ty .len) (a .ty .words)) (lent g w′ false) → g .ok ≡ false
           → (r : Resolved) → r .ok ≡ false → Substitutes image l at left params r
       unfolding plain-node
       two-full is q c grows full r e =
@@ -218,15 +218,15 @@ module _ (image : List ℕ) (l : Layout) (at left : ℕ) where
           (no-room-fails (suc (left - 1)) _ (two-fits (l .names .rows) (left - 1) (p .middle) (plain-depth s f ps x) (plain-depth s f ps v) k a said)
           (first-no (l .names .rows) (left - 1) (p .middle) (plain-depth s f ps x) (plain-depth s f ps v) k a said [] (subst (NoRoom (left - 1) (k ∷ [])) (sym (t .is)) (inr long)))))
         where
-          over : Grows (c ∷ take (a .ty .len) (a .ty .words)) (lent g w′) → g .ok ≡ false → (k : ℕ) {n : ℕ} → length (take (a .ty .len) (a .ty .words)) ≡ n → 64 < length (k ∷ []) + n
+          over : Grows (c ∷ take (a .ty .len) (a .ty .words)) (lent g w′ false) → g .ok ≡ false → (k : ℕ) {n : ℕ} → length (take (a .ty .len) (a .ty .words)) ≡ n → 64 < length (k ∷ []) + n
           over h full k e = let o : 64 < length (c ∷ take (a .ty .len) (a .ty .words)) = leb-false (length (c ∷ take (a .ty .len) (a .ty .words))) 64 (sym (h .ok) ∙ full) in omega (arith, e)
 
       -- the second part behind the code and the first
-      pub two-arm : kind-at image l at ≡ TypeKind.Two → Substitutes image l (at + 1) (left - 1) params a → (c : ℕ) → c ≡ getD (pool-words image l) at 0 → Grows (c ∷ take (a .ty .len) (a .ty .words)) (lent g w′) → g .ok ≡ true
+      pub two-arm : kind-at image l at ≡ TypeKind.Two → Substitutes image l (at + 1) (left - 1) params a → (c : ℕ) → c ≡ getD (pool-words image l) at 0 → Grows (c ∷ take (a .ty .len) (a .ty .words)) (lent g w′ false) → g .ok ≡ true
           → (e : End) (w″ : List ℕ)
           → Each image l (a .next) (a .left) params (resolved e w″) (λ s f ps. (x : TypeExpr) (m : ℕ) → At image l (a .next) (a .left) x m → Adds (l .names .rows) (a .left) m (plain-depth s f ps x) (take (g .len) w′) w″ e)
           → a .left ≤ left - 1
-          → Substitutes image l at left params (resolved e w″)
+          → Substitutes image l at left params (resolved (also (a .ty .poison) e) w″)
       unfolding plain-node
       two-arm is q c i grows grew e w″ adds falls =
           of-two image l at left params _ z is
@@ -261,15 +261,15 @@ module _ (image : List ℕ) (l : Layout) (at left : ℕ) where
         (λ t u. refl) n r refl (e ∙ t .next) refl refl))
 
     -- an expression by itself, put behind the words
-    pub appends-whole : Substitutes image l at left params a → (n len : ℕ) → len ≡ n → (words w₁ w₂ : List ℕ) (g : Longer) → take n w₁ ≡ take n words → Grows (take len w₁ ++ held-run (a .ty)) (lent g w₂)
-        → (r : End) → r .ok ≡ (a .ok && g .ok) → r .next ≡ a .next → r .left ≡ a .left → r .len ≡ g .len
+    pub appends-whole : Substitutes image l at left params a → (n len : ℕ) → len ≡ n → (words w₁ w₂ : List ℕ) (g : Longer) → take n w₁ ≡ take n words → Grows (take len w₁ ++ held-run (a .ty)) (lent g w₂ false)
+        → (r : End) → r .ok ≡ (a .ok && g .ok) → r .poison ≡ a .ty .poison → r .next ≡ a .next → r .left ≡ a .left → r .len ≡ g .len
         → Each image l at left params (resolved r w₂) (λ s f ps. (e : TypeExpr) (m : ℕ) → At image l at left e m → Adds (l .names .rows) left m (plain-depth s f ps e) (take n words) w₂ r)
-    appends-whole q n len same words w₁ w₂ g kept grows r e₁ e₂ e₃ e₄ s o f le ps w x m y =
-        put-behind (q s o f le ps w x m y) (subst (λ (b : List ℕ). Grows (b ++ held-run (a .ty)) (lent g w₂)) (ap (λ (k : ℕ). take k w₁) same ∙ kept) grows) refl r e₁ e₂ e₃ e₄
+    appends-whole q n len same words w₁ w₂ g kept grows r e₁ e₂ e₃ e₄ e₅ s o f le ps w x m y =
+        put-behind (q s o f le ps w x m y) (subst (λ (b : List ℕ). Grows (b ++ held-run (a .ty)) (lent g w₂ false)) (ap (λ (k : ℕ). take k w₁) same ∙ kept) grows) refl r e₁ e₂ e₃ e₄ e₅
 
     -- a node of two parts: its code, its first part, and what comes of its second
     module _ (z : 0 < left) (is : kind-at image l at ≡ TypeKind.Two) (q : Substitutes image l (at + 1) (left - 1) params a) (n c : ℕ) (i : c ≡ getD (pool-words image l) at 0)
-        (words w₁ w₂ : List ℕ) (g : Longer) (put : take (n + 1) w₁ ≡ take n words ++ (c ∷ [])) (len : ℕ) (len-is : len ≡ n + 1) (grows : Grows (take len w₁ ++ held-run (a .ty)) (lent g w₂)) where
+        (words w₁ w₂ : List ℕ) (g : Longer) (put : take (n + 1) w₁ ≡ take n words ++ (c ∷ [])) (len : ℕ) (len-is : len ≡ n + 1) (grows : Grows (take len w₁ ++ held-run (a .ty)) (lent g w₂ false)) where
       front-is : take len w₁ ≡ take n words ++ (c ∷ [])
       front-is = ap (λ (k : ℕ). take k w₁) len-is ∙ put
 
@@ -290,7 +290,7 @@ module _ (image : List ℕ) (l : Layout) (at left : ℕ) where
       pub appends-two : a .ok ≡ true → g .ok ≡ true → a .left ≤ left - 1
           → (r : End) (w₃ : List ℕ)
           → Each image l (a .next) (a .left) params (resolved r w₃) (λ s f ps. (x : TypeExpr) (m : ℕ) → At image l (a .next) (a .left) x m → Adds (l .names .rows) (a .left) m (plain-depth s f ps x) (take (g .len) w₂) w₃ r)
-          → Each image l at left params (resolved r w₃) (λ s f ps. (e : TypeExpr) (m : ℕ) → At image l at left e m → Adds (l .names .rows) left m (plain-depth s f ps e) (take n words) w₃ r)
+          → Each image l at left params (resolved r w₃) (λ s f ps. (e : TypeExpr) (m : ℕ) → At image l at left e m → Adds (l .names .rows) left m (plain-depth s f ps e) (take n words) w₃ (also (a .ty .poison) r))
       unfolding plain-node
       appends-two ok grew falls r w₃ adds s o zero le ps w = absurd (omega (arith, z, le))
       appends-two ok grew falls r w₃ adds s o (suc f) le ps w =
@@ -314,7 +314,7 @@ module _ (image : List ℕ) (l : Layout) (at left : ℕ) where
           let p = two-stands k x v y in
           let said = q s o f (omega arith) ps w x (p .middle) (p .left) in
           let code : c ≡ k = i ∙ p .code in
-          let first = put-behind said (subst (λ (b : List ℕ). Grows (b ++ held-run (a .ty)) (lent g w₂)) front-is grows) refl (record { ok = a .ok && g .ok; next = a .next; left = a .left; len = g .len }) refl refl refl refl in
+          let first = put-behind said (subst (λ (b : List ℕ). Grows (b ++ held-run (a .ty)) (lent g w₂ false)) front-is grows) refl (record { ok = a .ok && g .ok; poison = a .ty .poison; next = a .next; left = a .left; len = g .len }) refl refl refl refl refl in
           record {
             ok = λ z. absurd (true-false (sym z ∙ not-ok));
             no = λ _. first-no (l .names .rows) (left - 1) (p .middle) (plain-depth s f ps x) (plain-depth s f ps v) k a said (take n words) (subst (λ (c : ℕ). NoRoom (left - 1) (take n words ++ (c ∷ [])) (plain-depth s f ps x)) code (first .no e));

@@ -25,9 +25,11 @@ ghost use Rattle.subst_leaves.specs.Says.{Keeps};
 ghost use Rattle.subst_leaves.specs.Nodes.{Substitutes};
 ghost use Rattle.subst.specs.Lent.{Appends, Expands};
 
-// What comes of a node beside its words, which are lent.
+// What comes of an expression beside its words, which are lent: whether poison occurs in what it resolves to, and not in the
+// words before. The flags stand together: a frame of the cycle has such an end.
 pub struct End {
     pub ok: bool,
+    pub poison: bool,
     pub next: usize,
     pub left: u32,
     pub len: usize,
@@ -52,16 +54,18 @@ fn append(
     let pool = l.pool;
     put_at(words, n, image_words::section_word(image, pool, at));
     let b = substitute_type(image, l, start.at, start.left, params);
-    let ty = b.ty;
-    let g = push_back(words, start.len, ty);
+    let g = push_back(words, start.len, b.ty);
     let ok = b.ok & g.ok;
     if start.again {
         if ok {
-            return append(image, l, b.next, b.left, params, words, g.len);
+            let mut rest = append(image, l, b.next, b.left, params, words, g.len);
+            rest.poison = b.ty.poison | rest.poison;
+            return rest;
         }
     }
     End {
         ok,
+        poison: b.ty.poison,
         next: b.next,
         left: b.left,
         len: g.len,
@@ -69,23 +73,25 @@ fn append(
 }
 
 // An alias whose argument is the first n words: its target in their place, with only its own parameter in view. A target
-// that is an alias again is expanded in turn: its argument first.
+// that is an alias again is expanded in turn: its argument first. The place behind an alias is the one behind its argument,
+// which the caller has.
 fn expand(
     image: &[u8],
     l: Layout,
     alias: Alias,
-    next: usize,
     left: u32,
     words: &mut [u32; TYPE_WORDS],
     n: usize,
+    poison: bool,
 ) -> End
     requires { ⌜ Cut (now image) l × (length (now words) ≡ 64) ⌝ }
-    ensures { λ r. ⌜ Expands (now (image .entry)) l alias next left (now (words .entry)) n r (now (words .exit)) ⌝ }
+    ensures { λ r. ⌜ Expands (now (image .entry)) l alias left (now (words .entry)) n poison r (now (words .exit)) ⌝ }
 {
     let given = *words;
     let argument = HeldType {
         words: given,
         len: n,
+        poison,
     };
     let mut own = [0u32; subst_params::ROW];
     subst_params::write_row(&mut own, 0, alias.param, argument);
@@ -101,12 +107,13 @@ fn expand(
     let again = node.alias;
     if again.some {
         if b.ok {
-            return expand(image, l, again, next, b.left, words, len);
+            return expand(image, l, again, b.left, words, len, ty.poison);
         }
     }
     End {
         ok: b.ok,
-        next,
+        poison: ty.poison,
+        next: 0, // none of its own
         left: b.left,
         len,
     }
@@ -133,6 +140,7 @@ pub fn substitute_type(image: &[u8], l: Layout, at: usize, left: u32, params: &[
     let n = a.ty.len;
     let mut e = End {
         ok: false,
+        poison: false,
         next,
         left: rest,
         len: n,
@@ -170,14 +178,16 @@ pub fn substitute_type(image: &[u8], l: Layout, at: usize, left: u32, params: &[
             a.next = e.next;
             a.left = e.left;
             a.ty.len = e.len;
+            a.ty.poison = a.ty.poison | e.poison;
             return a;
         }
         Parts::Alias => {
-            e = expand(image, l, node.alias, next, rest, &mut a.ty.words, n);
+            let poison = a.ty.poison;
+            e = expand(image, l, node.alias, rest, &mut a.ty.words, n, poison);
             a.ok = e.ok;
-            a.next = e.next;
             a.left = e.left;
             a.ty.len = e.len;
+            a.ty.poison = e.poison;
             return a;
         }
     }

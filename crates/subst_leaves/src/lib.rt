@@ -10,11 +10,12 @@ ghost use Rattle.image_layout.specs.Rows.{Inside, Cut};
 ghost use Rattle.subst_leaves.specs.Says.{Keeps};
 ghost use Rattle.subst_leaves.specs.Nodes.{Leaves, Names, Qualifieds, Poisons};
 
-// What resolving comes to: whether it keeps the bounds, the place behind the expression, the visits left, the type.
+// What resolving comes to: the place behind the expression, the visits left, whether it keeps the bounds, the type. The small
+// fields stand together: each frame of the resolver's cycle has such an answer.
 pub struct Resolved {
-    pub ok: bool,
     pub next: usize,
     pub left: u32,
+    pub ok: bool,
     pub ty: HeldType,
 }
 

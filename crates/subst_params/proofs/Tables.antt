@@ -24,7 +24,7 @@ module _ (names : ℕ) (table : List ℕ) (n : ℕ) where
   row-taken at p r l = record {
     inside = omega (arith, length-take n table, r .inside);
     name = getD-take n table at 0 (omega arith) ∙ r .name;
-    count = getD-take n table (at + 1) 0 (omega arith) ∙ r .count;
+    noted = getD-take n table (at + 1) 0 (omega arith) ∙ r .noted;
     words = λ j k. r .words j k ∙ sym (getD-take n table (at + 2 + j) 0 (omega (arith, r .stored .short)));
     stored = r .stored;
   }
@@ -40,7 +40,7 @@ module _ (names : ℕ) (before after : List ℕ) (n x : ℕ) (h : HeldType) (w :
   row-kept at p r l = record {
     inside = omega (arith, w .size, r .inside);
     name = w .kept at (omega arith) ∙ r .name;
-    count = w .kept (at + 1) (omega arith) ∙ r .count;
+    noted = w .kept (at + 1) (omega arith) ∙ r .noted;
     words = λ j k. r .words j k ∙ sym (w .kept (at + 2 + j) (omega (arith, r .stored .short)));
     stored = r .stored;
   }

@@ -1,6 +1,6 @@
 -- A row written word by word. Assumes nothing.
 use Prim.Native.Nat.{ℕ, _+_, _<_, _≤_}
-use mathlib.Core.Path.{_≡_, sym, ap, _∙_}
+use mathlib.Core.Path.{_≡_, sym, ap, ap₂, _∙_}
 use mathlib.Core.List.{List}
 use native.Mathlib.Omega.{arith}
 use borrow.Author.Count.{below-more}
@@ -9,6 +9,7 @@ use lib.Seq.{getD-set-same, getD-set-other}
 use Rattle.rules.specs.Syntax.{run}
 use Rattle.type_words.specs.declared.HeldType.{HeldType}
 use Rattle.type_words.specs.Runs.{held-run}
+use Rattle.type_words.specs.Notes.{note}
 use Rattle.type_words.proofs.Runs.{run-word}
 use Rattle.subst_params.specs.Views.{Written}
 
@@ -32,10 +33,10 @@ filled-more before words from after i l f = record {
       (getD-set-same after (from + i) (getD words i 0) 0 (omega (arith, f .size, f .room)));
 }
 
--- a name and a count in front
+-- a name and a note in front
 pub written : (before after : List ℕ) (at x n i : ℕ) (h : HeldType) → at + 66 ≤ length before → 64 ≤ i → Filled (set (set before at x) (at + 1) n) (h .words) (at + 2) after i
-    → n ≡ length (held-run h) → n ≤ 64 → Written before after at x h
-written before after at x n i h room full f e m =
+    → n ≡ note (length (held-run h)) (h .poison) → Written before after at x h
+written before after at x n i h room full f e =
     let z : length (set (set before at x) (at + 1) n) ≡ length before = length-set (set before at x) (at + 1) n ∙ length-set before at x in
     record {
       size = f .size ∙ z;
@@ -45,8 +46,8 @@ written before after at x n i h room full f e m =
           record {
             inside = omega (arith, f .size, z);
             name = f .kept at (omega arith) ∙ getD-set-other (set before at x) (at + 1) at n 0 (λ q. omega arith) ∙ getD-set-same before at x 0 (omega arith);
-            count = f .kept (at + 1) (omega arith) ∙ getD-set-same (set before at x) (at + 1) n 0 (omega (arith, length-set before at x)) ∙ e ∙ k;
-            words = λ j l. ap (λ (xs : List ℕ). getD xs j 0) (sym (p .run)) ∙ run-word h j (omega (arith, k)) ∙ sym (f .copied j (omega (arith, k)));
-            stored = record { good = p .good; short = omega (arith, k) };
+            noted = f .kept (at + 1) (omega arith) ∙ getD-set-same (set before at x) (at + 1) n 0 (omega (arith, length-set before at x)) ∙ e ∙ ap₂ note k (p .poison);
+            words = λ j l. ap (λ (xs : List ℕ). getD xs j 0) (sym (p .run)) ∙ run-word h j (omega (arith, k)) ∙ sym (f .copied j (omega (arith, p .count, p .small)));
+            stored = record { good = p .good; short = omega (arith, p .count, p .small) };
           };
     }

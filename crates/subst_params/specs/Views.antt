@@ -4,16 +4,18 @@ use mathlib.Core.Path.{_≡_}
 use mathlib.Core.List.{List, [], _∷_}
 use lib.ListN.{length, getD}
 use Rattle.rules.specs.Syntax.{ResolvedType, run, Param}
+use Rattle.rules.specs.Types.{contains-poison}
 use Rattle.rules.specs.Good.{Stored}
 use Rattle.type_words.specs.declared.HeldType.{HeldType}
+use Rattle.type_words.specs.Notes.{note}
 use Rattle.type_words.specs.Holds.{Holds}
 use Rattle.type_from_pool.specs.Copies.{Copied}
 
--- the row at `at`: the parameter's name, the count of its argument's words, and these words
+-- the row at `at`: the parameter's name, the note of its argument, and the argument's words
 pub record Row (names : ℕ) (table : List ℕ) (at : ℕ) (p : Param ResolvedType) : Type 0 where
   pub inside : at + 66 ≤ length table
   pub name : getD table at 0 ≡ p .name
-  pub count : getD table (at + 1) 0 ≡ length (run (p .ty))
+  pub noted : getD table (at + 1) 0 ≡ note (length (run (p .ty))) (contains-poison (p .ty))
   pub words : Copied table (at + 2) (run (p .ty)) (length (run (p .ty)))
   pub stored : Stored names (p .ty)
 

@@ -3,6 +3,9 @@ use rules::bounds::TYPE_WORDS;
 use rules::ids::NameId;
 use type_words::HeldType;
 use type_words::MaybeType;
+use type_words::notes::note_of;
+use type_words::notes::noted_count;
+use type_words::notes::noted_poison;
 ghost use Prim.Native.Nat.{ℕ, _+_, _*_, _≤_};
 ghost use mathlib.Core.Path.{_≡_};
 ghost use mathlib.Core.List.{List};
@@ -12,7 +15,7 @@ ghost use Rattle.rules.specs.Substitute.{find-param};
 ghost use Rattle.type_words.specs.Holds.{Holds, MaybeHolds};
 ghost use Rattle.subst_params.specs.Views.{Row, Views, Written};
 
-// A row: the parameter's name, the count of its argument's words, and 64 words.
+// A row: the parameter's name, a note of its argument (`type_words::notes`), and 64 words.
 pub const ROW: usize = 66;
 
 // The argument that a row holds.
@@ -22,7 +25,8 @@ fn argument(table: &[u32], at: usize) -> HeldType
     if image_words::less(table.len(), at) < ROW {
         return HeldType::empty();
     }
-    let n = table[at + 1] as usize;
+    let note = table[at + 1];
+    let n = noted_count(note);
     if TYPE_WORDS < n {
         return HeldType::empty();
     }
@@ -32,7 +36,11 @@ fn argument(table: &[u32], at: usize) -> HeldType
         words[i] = table[at + 2 + i];
         i += 1;
     }
-    HeldType { words, len: n }
+    HeldType {
+        words,
+        len: n,
+        poison: noted_poison(note),
+    }
 }
 
 // The argument of the first type parameter of this name.
@@ -54,10 +62,9 @@ pub fn write_row(table: &mut [u32], at: usize, name: NameId, ty: HeldType)
     requires { ⌜ at + 66 ≤ length (now table) ⌝ }
     ensures { λ r. ⌜ Written (now (table .entry)) (now (table .exit)) at (name .0) ty ⌝ }
 {
-    let n = ty.count();
     let words = ty.words;
     table[at] = name.0;
-    table[at + 1] = n as u32;
+    table[at + 1] = note_of(ty);
     let mut i = 0;
     while i < TYPE_WORDS {
         table[at + 2 + i] = words[i];

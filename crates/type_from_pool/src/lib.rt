@@ -2,15 +2,17 @@
 use image_layout::Layout;
 use image_words::Section;
 use rules::bounds::TYPE_WORDS;
+use type_poison::Seen;
+use type_poison::pass;
 use type_words::HeldType;
-ghost use Prim.Native.Nat.{ℕ, _≤_};
-ghost use mathlib.Core.List.{List};
-ghost use lib.ListN.{length};
+ghost use Prim.Native.Nat.{ℕ};
+ghost use Rattle.rules.specs.Syntax.{ResolvedType, run};
+ghost use Rattle.rules.specs.Good.{Stored};
 ghost use Rattle.image_words.specs.Verdict.{section-words, Lies};
 ghost use Rattle.image_words.specs.Stands.{Stands};
 ghost use Rattle.image_layout.specs.Rows.{Inside};
 ghost use Rattle.image_layout.specs.Open.{pool-words};
-ghost use Rattle.type_words.specs.Runs.{Runs};
+ghost use Rattle.type_words.specs.Holds.{Holds};
 ghost use Rattle.type_from_pool.specs.Held.{Types};
 
 // A type, and the place behind it.
@@ -19,22 +21,34 @@ pub struct Held {
     pub next: usize,
 }
 
-// The words from `at` up to `end`, at most 64.
+// The words from `at` up to `end`, at most 64. Each word is handed to `pass`, which tells nodes from other words.
 fn copy(image: &[u8], pool: Section, at: usize, end: usize) -> HeldType
     requires { ⌜ Lies (now image) pool ⌝ }
-    ensures { λ r. ⌜ ((run : List ℕ) → Stands (section-words (now (image .entry)) pool) run at end → length run ≤ 64 → Runs r run) ⌝ }
+    ensures { λ r. ⌜ ((names : ℕ) (t : ResolvedType) → Stands (section-words (now (image .entry)) pool) (run t) at end → Stored names t → Holds names r t) ⌝ }
 {
     let n = image_words::less(end, at);
     if TYPE_WORDS < n {
         return HeldType::empty();
     }
     let mut words = [0u32; TYPE_WORDS];
+    let mut seen = Seen {
+        poison: false,
+        second: 1,
+    };
+    let mut before = 0;
     let mut i = 0;
     while i < n {
-        words[i] = image_words::section_word(image, pool, at + i);
+        let word = image_words::section_word(image, pool, at + i);
+        words[i] = word;
+        seen = pass(seen, i, before, word);
+        before = word;
         i += 1;
     }
-    HeldType { words, len: n }
+    HeldType {
+        words,
+        len: n,
+        poison: seen.poison,
+    }
 }
 
 pub fn hold_type(image: &[u8], l: Layout, at: usize) -> Held

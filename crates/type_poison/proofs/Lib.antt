@@ -1,2 +1,4 @@
 pub mod Walk
 pub mod Poison
+pub mod Passed
+pub mod Equal

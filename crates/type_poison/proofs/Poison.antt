@@ -3,7 +3,7 @@ use Prim.Native.Nat.{ℕ}
 use native.Mathlib.Omega.{arith}
 use native.Mathlib.Numerals.{add-two}
 use mathlib.Core.Path.{_≡_, refl, sym, ap, _∙_}
-use mathlib.Core.Bool.{Bool, true, false, _||_, or-assoc}
+use mathlib.Core.Bool.{_||_, or-assoc, or-false}
 use mathlib.Core.List.{List, [], _∷_, _++_, append-assoc, append-nil}
 use lib.ListN.{length, getD}
 use lib.Seq.{drop-append-seam}
@@ -14,9 +14,6 @@ use Rattle.rules.specs.Kinds.{type-kind}
 use Rattle.rules.specs.declared.kinds.TypeKind.{TypeKind}
 use Rattle.rules.proofs.Clash.{clash}
 use Rattle.rules.specs.Good.{Good}
-use Rattle.type_words.specs.declared.HeldType.{HeldType}
-use Rattle.type_words.specs.Runs.{held-run}
-use Rattle.type_words.specs.Holds.{Holds}
 use Rattle.codes.proofs.Codes.{named-at}
 use Rattle.type_poison.specs.Headers.{header-of}
 use Rattle.type_poison.proofs.Walk.{front-poison, front-header, behind, poison-in, poisoned, poisoned-step}
@@ -28,7 +25,7 @@ over c ws k e n h =
     poisoned-step (c ∷ ws) (omega arith)
     ∙ rw (ne-eqb c 48 (λ q. n (sym e ∙ named-at q)), ap (λ (x : TypeKind). header-of x (getD (c ∷ ws) 1 0)) e ∙ h)
 
-pub poison-tree : (names : ℕ) (t : ResolvedType) (rest : List ℕ) → Good names t → poisoned (run t ++ rest) ≡ (contains-poison t || poisoned rest)
+poison-tree : (names : ℕ) (t : ResolvedType) (rest : List ℕ) → Good names t → poisoned (run t ++ rest) ≡ (contains-poison t || poisoned rest)
 unfolding run contains-poison front-poison behind front-header type-kind
 poison-tree names (ResolvedType.plain c) rest g = over c rest TypeKind.Plain g (λ e. clash (cc)) refl
 poison-tree names (ResolvedType.sub s n) rest g = poisoned-step (16 ∷ s ∷ n ∷ rest) (omega arith)
@@ -42,11 +39,6 @@ poison-tree names (ResolvedType.two c t u) rest g =
     ∙ rw (append-assoc (run t) (run u) rest, poison-tree names t (run u ++ rest) (g .1), poison-tree names u rest (g .2))
     (sym (or-assoc (contains-poison t) (contains-poison u) (poisoned rest)))
 
--- of a type that is held
-pub poison-held : {names : ℕ} {h : HeldType} {t : ResolvedType} {b : Bool} → Holds names h t → poisoned (held-run h) ≡ b → b ≡ contains-poison t
+pub poison-run : (names : ℕ) (t : ResolvedType) → Good names t → poisoned (run t) ≡ contains-poison t
 unfolding poisoned poison-in
-poison-held {names} {t = t} p e = sym e ∙ ap poisoned (p .run ∙ sym (append-nil (run t))) ∙ poison-tree names t [] (p .good) ∙ or-false (contains-poison t)
-  where
-    or-false : (b : Bool) → (b || false) ≡ b
-    or-false true = refl
-    or-false false = refl
+poison-run names t g = ap poisoned (sym (append-nil (run t))) ∙ poison-tree names t [] g ∙ or-false (contains-poison t)

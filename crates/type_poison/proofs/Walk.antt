@@ -3,9 +3,10 @@ use Prim.Native.Nat.{ℕ, zero, suc, _+_, _≤_, _<_}
 use native.Mathlib.Nat.{add-zero}
 use native.Mathlib.Omega.{arith}
 use mathlib.Core.Path.{_≡_, refl, sym, ap, _∙_}
-use mathlib.Core.Bool.{Bool, true, false, _||_}
+use mathlib.Core.Bool.{Bool, false, _||_, and-false}
 use mathlib.Core.List.{List, [], _∷_}
-use lib.ListN.{length, drop, getD, length-drop, drop-of-length-le}
+use lib.ListN.{length, drop, getD, length-drop}
+use lib.Dec.{eqb}
 use lib.Seq.{drop-drop, getD-drop}
 use Rattle.rules.specs.Kinds.{type-kind}
 use Rattle.rules.specs.declared.kinds.TypeKind.{TypeKind}
@@ -69,12 +70,8 @@ poisoned-step (w ∷ ws) l =
     ap (λ (x : Bool). front-poison (w ∷ ws) || x)
     (enough (length ws) (length (behind (w ∷ ws))) (behind (w ∷ ws)) (behind-shorter w ws) (omega arith))
 
-pub poisoned-end : (u : List ℕ) (i : ℕ) → length u ≤ i → poisoned (drop i u) ≡ false
-unfolding poison-in poisoned
-poisoned-end u i l = rw (drop-of-length-le u l)
-
--- as the code goes, from place to place
-step-at : (u : List ℕ) (i c next n : ℕ) → i < length u → c ≡ getD u i 0 → next ≡ getD u (i + 1) 0 → n ≡ header-of (type-kind c) next
+-- the same from place to place
+pub step-at : (u : List ℕ) (i c next n : ℕ) → i < length u → c ≡ getD u i 0 → next ≡ getD u (i + 1) 0 → n ≡ header-of (type-kind c) next
     → poisoned (drop i u) ≡ (poison-words c next || poisoned (drop (i + n) u))
 unfolding front-poison behind front-header
 step-at u i c next n l ec en eh =
@@ -83,10 +80,9 @@ step-at u i c next n l ec en eh =
     let b : getD (drop i u) 1 0 ≡ next = getD-drop i u 1 0 ∙ sym en in
     poisoned-step (drop i u) s ∙ rw (a, b, ← eh, drop-drop n i u) refl
 
-module _ (u : List ℕ) (i : ℕ) {c next : ℕ} {b : Bool} (l : i < length u) (ec : c ≡ getD u i 0) (en : next ≡ getD u (i + 1) 0) (eb : b ≡ poison-words c next) where
-  -- at a node that is no poison the walk goes on behind its header, and at poison it ends
-  pub walk-on : {k : TypeKind} {n : ℕ} → b ≡ false → k ≡ type-kind c → n ≡ header-of k next → poisoned (drop i u) ≡ poisoned (drop (i + n) u)
-  walk-on {n = n} f ek eh = step-at u i c next n l ec en (eh ∙ ap (λ (x : TypeKind). header-of x next) ek) ∙ rw (← eb, f)
-
-  pub walk-hit : b ≡ true → poisoned (drop i u) ≡ true
-  walk-hit f = step-at u i c next (header-of (type-kind c) next) l ec en refl ∙ rw (← eb, f)
+-- fewer words than two have no poison
+pub poisoned-short : (ws : List ℕ) → length ws ≤ 1 → poisoned ws ≡ false
+unfolding poison-in poisoned front-poison
+poisoned-short [] l = refl
+poisoned-short (w ∷ []) l = rw (and-false (eqb w 48))
+poisoned-short (w ∷ v ∷ ws) l = absurd (omega arith)

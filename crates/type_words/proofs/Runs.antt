@@ -4,8 +4,8 @@ use native.Mathlib.Omega.{arith}
 use native.Mathlib.Numerals.{add-one}
 use native.Mathlib.Decide.{decLe}
 use native.Mathlib.Nat.{add-zero, add-assoc}
-use mathlib.Core.Path.{_≡_, sym, ap, _∙_, subst}
-use mathlib.Core.Bool.{true, false, false≢true}
+use mathlib.Core.Path.{_≡_, sym, ap, ap₂, _∙_, subst}
+use mathlib.Core.Bool.{Bool, true, false, false≢true}
 use mathlib.Core.List.{List, _∷_, _++_, append-nil, append-assoc}
 use lib.ListN.{length, take, set, getD, length-take, List·getD-eq-default}
 use lib.Seq.{getD-take, take-suc, take-suc-set, take-all}
@@ -40,12 +40,17 @@ run-take h n l e = go (decLe (h .len) 64)
     go (no s) = take-all n (h .words) (omega (arith, m)) ∙ sym (take-all (h .len) (h .words) (omega arith))
 
 -- the first n words of an array, counted
-pub counted : (ws l : List ℕ) (n : ℕ) → length ws ≡ 64 → n ≤ 64 → take n ws ≡ l → Runs (record { words = ws; len = n }) l
+pub counted : (ws l : List ℕ) (n : ℕ) {p : Bool} → length ws ≡ 64 → n ≤ 64 → take n ws ≡ l → Runs (record { words = ws; len = n; poison = p }) l
 unfolding held-run
 counted ws l n w s e = record { run = e; count = count; small = s }
   where
     count : n ≡ length l
     count = let q : length (take n ws) ≡ length l = ap length e in omega (arith, length-take n ws)
+
+-- what a type says of poison has no part in its run
+pub runs-as : {h : HeldType} {l : List ℕ} → Runs h l → (g : HeldType) → g .words ≡ h .words → g .len ≡ h .len → Runs g l
+unfolding held-run
+runs-as r g w n = record { run = ap₂ take n w ∙ r .run; count = n ∙ r .count; small = omega (arith, n, r .small) }
 
 -- a type that grew, and one that could not
 pub grown : (h : HeldType) (l : List ℕ) → Runs h l → Grows l (record { ok = true; ty = h })

@@ -6,6 +6,7 @@ use mathlib.Core.Option.{Option, none, some}
 use lib.ListN.{length}
 use Rattle.rules.specs.Syntax as Syntax
 use Rattle.rules.specs.Syntax.{ResolvedType}
+use Rattle.rules.specs.Types.{contains-poison}
 use Rattle.rules.specs.Good.{Good}
 use Rattle.type_words.specs.declared.HeldType.{HeldType}
 use Rattle.type_words.specs.declared.MaybeType.{MaybeType}
@@ -16,6 +17,7 @@ pub record Holds (names : ℕ) (h : HeldType) (t : ResolvedType) : Type 0 where
   pub run : held-run h ≡ Syntax.run t
   pub count : h .len ≡ length (Syntax.run t)
   pub small : h .len ≤ 64
+  pub poison : h .poison ≡ contains-poison t
   pub good : Good names t
 
 -- m holds an optional type

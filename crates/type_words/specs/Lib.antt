@@ -1,3 +1,4 @@
 pub mod Runs
 pub mod Holds
 pub mod Lent
+pub mod Notes

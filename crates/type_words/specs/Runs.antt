@@ -17,6 +17,11 @@ pub record Runs (h : HeldType) (l : List ℕ) : Type 0 where
   pub count : h .len ≡ length l
   pub small : h .len ≤ 64
 
+-- h holds the words l, and says p of poison
+pub record Made (h : HeldType) (l : List ℕ) (p : Bool) : Type 0 where
+  pub runs : Runs h l
+  pub poison : h .poison ≡ p
+
 -- a type that was to grow: not ok where it would pass 64 words
 pub record Grown : Type 0 where
   pub ok : Bool

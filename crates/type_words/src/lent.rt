@@ -1,7 +1,9 @@
 // Runs that grow where they lie: the words of a held type, lent with their count, so that growing costs no copy on the stack.
+// What the type says of poison stays with the lender.
 use crate::HeldType;
 use rules::bounds::TYPE_WORDS;
 use rules::tags::TypeTag;
+ghost use mathlib.Core.Bool.{Bool};
 ghost use mathlib.Core.List.{[], _∷_, _++_};
 ghost use Prim.Native.Nat.{_+_, _<_, _≤_};
 ghost use mathlib.Core.Path.{_≡_};
@@ -18,7 +20,7 @@ pub struct Longer {
 // A word before the run.
 pub fn push_front(word: u32, words: &mut [u32; TYPE_WORDS], n: usize) -> Longer
     requires { ⌜ length (now words) ≡ 64 ⌝ }
-    ensures { λ r. ⌜ Grows (word ∷ take n (now (words .entry))) (lent r (now (words .exit))) × (length (now (words .exit)) ≡ 64) ⌝ }
+    ensures { λ r. ⌜ ((p : Bool) → Grows (word ∷ take n (now (words .entry))) (lent r (now (words .exit)) p)) × (length (now (words .exit)) ≡ 64) ⌝ }
 {
     if TYPE_WORDS <= n {
         return Longer { ok: false, len: n };
@@ -40,7 +42,7 @@ pub fn push_front(word: u32, words: &mut [u32; TYPE_WORDS], n: usize) -> Longer
 // A fixed array's three words before the run.
 pub fn push_fixed(low: u32, high: u32, words: &mut [u32; TYPE_WORDS], n: usize) -> Longer
     requires { ⌜ length (now words) ≡ 64 ⌝ }
-    ensures { λ r. ⌜ Grows (66 ∷ low ∷ high ∷ take n (now (words .entry))) (lent r (now (words .exit))) × (length (now (words .exit)) ≡ 64) ⌝ }
+    ensures { λ r. ⌜ ((p : Bool) → Grows (66 ∷ low ∷ high ∷ take n (now (words .entry))) (lent r (now (words .exit)) p)) × (length (now (words .exit)) ≡ 64) ⌝ }
 {
     let f = push_front(high, words, n);
     if !f.ok {
@@ -66,7 +68,7 @@ pub fn put_at(words: &mut [u32; TYPE_WORDS], n: usize, word: u32)
 // Another run behind the first n words.
 pub fn push_back(words: &mut [u32; TYPE_WORDS], n: usize, other: HeldType) -> Longer
     requires { ⌜ (length (now words) ≡ 64) × (n ≤ 64) ⌝ }
-    ensures { λ r. ⌜ Grows (take n (now (words .entry)) ++ held-run other) (lent r (now (words .exit))) × (length (now (words .exit)) ≡ 64) ⌝ }
+    ensures { λ r. ⌜ ((p : Bool) → Grows (take n (now (words .entry)) ++ held-run other) (lent r (now (words .exit)) p)) × (length (now (words .exit)) ≡ 64) ⌝ }
 {
     let m = other.count();
     if TYPE_WORDS - n < m {

@@ -1,12 +1,16 @@
-// A resolved type, held as its words in prefix order with their count, and the few functions that make one. Nothing is said of the words past the count.
+// A resolved type, held as its words in prefix order with their count, and whether poison occurs in it; the few functions
+// that make one. Nothing is said of the words past the count.
 pub mod lent;
+pub mod notes;
 
 ghost use mathlib.Core.Path.{_≡_};
 ghost use mathlib.Core.Bool.{true, false};
 ghost use mathlib.Core.List.{[], _∷_};
 ghost use Prim.Native.Nat.{_≤_};
 ghost use lib.ListN.{length, getD};
-ghost use Rattle.type_words.specs.Runs.{held-run, Runs};
+ghost use lib.Dec.{eqb};
+ghost use Rattle.rules.specs.Words.{NONE};
+ghost use Rattle.type_words.specs.Runs.{held-run, Made};
 use rules::bounds::TYPE_WORDS;
 use rules::ids::TypeId;
 use rules::tags::TypeTag;
@@ -14,6 +18,7 @@ use rules::tags::TypeTag;
 pub struct HeldType {
     pub words: [u32; TYPE_WORDS],
     pub len: usize,
+    pub poison: bool,
 }
 
 // A type or none.
@@ -40,30 +45,39 @@ impl HeldType {
     }
 
     pub fn empty() -> HeldType
-        ensures { λ r. ⌜ Runs r [] ⌝ }
+        ensures { λ r. ⌜ Made r [] false ⌝ }
     {
         HeldType {
             words: [0u32; TYPE_WORDS],
             len: 0,
+            poison: false,
         }
     }
 
     // A primitive or a semantic type.
     pub fn plain(code: u32) -> HeldType
-        ensures { λ r. ⌜ Runs r (code ∷ []) ⌝ }
+        ensures { λ r. ⌜ Made r (code ∷ []) false ⌝ }
     {
         let mut words = [0u32; TYPE_WORDS];
         words[0] = code;
-        HeldType { words, len: 1 }
+        HeldType {
+            words,
+            len: 1,
+            poison: false,
+        }
     }
 
     pub fn named(id: TypeId) -> HeldType
-        ensures { λ r. ⌜ Runs r (48 ∷ id .0 ∷ []) ⌝ }
+        ensures { λ r. ⌜ Made r (48 ∷ id .0 ∷ []) (eqb (id .0) NONE) ⌝ }
     {
         let mut words = [0u32; TYPE_WORDS];
         words[0] = TypeTag::NAMED;
         words[1] = id.0;
-        HeldType { words, len: 2 }
+        HeldType {
+            words,
+            len: 2,
+            poison: id.0 == TypeId::POISON.0,
+        }
     }
 }
 

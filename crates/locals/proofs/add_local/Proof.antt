@@ -9,18 +9,15 @@ use Rattle.locals.proofs.add_local.Tie as tie
 returns : tie.Need-returns
 returns c rows ps t w h =
     let a = c .before .before .before .before .before .before .before .before .args in
-    let p = c .before .before .before .before .before .before .before .before .pre in
-    let n = c .before .before .before .before .count in
-    added rows (now (a .names)) (now (a .words)) _ (now (a .lens)) (a .i) (a .name .0) _ (a .ty) (c .before .before .fill-row .ensures) ps t (p .0) (omega arith) (omega arith) (omega (arith, n .ensures .0)) (omega (arith, n .ensures .1)) w h
+    added rows (now (a .names)) (now (a .words)) _ (now (a .lens)) (a .i) (a .name .0) _ (a .ty) (c .before .before .fill-row .ensures) ps t (c .before .before .before .before .before .before .before .before .pre .0) (omega arith) (omega arith) (c .before .before .before .before .note-of .ensures) w h
 
 pub add-local-spec : {M : Type 1} → statement M
 add-local-spec =
     tie.close
     (tie.spec
+    (λ c. search needs)
+    (λ c. search needs)
     (λ c κs. search needs)
-    (λ c. search needs)
-    (λ c. search needs)
-    (λ c. search needs)
     (λ c. search needs)
     (λ c. search needs)
     (λ c κs. search needs)

@@ -6,7 +6,9 @@ use native.Mathlib.Omega.{arith}
 use denote.Ref.{now}
 use lib.ListN.{length, take, length-set}
 use Rattle.rules.specs.Syntax.{run}
+use Rattle.rules.specs.Types.{contains-poison}
 use Rattle.type_words.proofs.Runs.{counted}
+use Rattle.type_words.proofs.Noted.{count-noted, poison-noted}
 use Rattle.type_words.proofs.Trees.{holds}
 use Rattle.type_from_pool.specs.Copies.{Copied}
 use Rattle.type_from_pool.proofs.Copies.{copied-more, copied-run}
@@ -14,10 +16,30 @@ use Rattle.locals.proofs.local_type.Statement.{statement}
 use Rattle.locals.proofs.local_type.Tie as tie
 
 abbrev Inv-loop : tie.InvT-loop
-Inv-loop words lens i n run₀ k₀ run k = (k ≤ n) × (n ≤ 64) × (length run ≡ 64) × (64 * i + 64 ≤ length words) × Copied words (64 * i) run k
+Inv-loop words lens i note n run₀ k₀ run k = (k ≤ n) × (n ≤ 64) × (length run ≡ 64) × (64 * i + 64 ≤ length words) × Copied words (64 * i) run k
 
 abbrev μ-loop : tie.MeasureT-loop
-μ-loop words lens i n run₀ k₀ run k = n - k
+μ-loop words lens i note n run₀ k₀ run k = n - k
+
+returns-3 : tie.Need-returns-3 Inv-loop μ-loop
+returns-3 c rows names p r =
+    let n : c .before .before .noted-count .result ≡ length (run (p .ty)) = count-noted _ (contains-poison (p .ty)) (r .stored .short) (r .noted) (c .before .before .noted-count .ensures) in
+    absurd (omega (arith, n, r .stored .short, (c .before .if3 .taken)))
+
+loop-again : tie.Need-loop-again Inv-loop μ-loop
+loop-again c =
+    let v = c .before .before .loop .inv in
+    (omega (arith, v .0), v .1, simp length-set (v .2), v .3, copied-more (now (c .before .before .before .before .before .before .before .before .before .before .before .args .words)) (64 * c .before .before .before .before .before .before .before .before .before .before .before .args .i) (c .before .before .loop .run) (c .before .before .loop .k) _ (omega (arith, v .1, v .2)) refl (v .4))
+
+returns-5 : tie.Need-returns-5 Inv-loop μ-loop
+returns-5 c rows names p r =
+    let v = c .before .before .loop .inv in
+    let n : c .before .before .before .before .before .noted-count .result ≡ length (run (p .ty)) = count-noted _ (contains-poison (p .ty)) (r .stored .short) (r .noted) (c .before .before .before .before .before .noted-count .ensures) in
+    let i : c .before .before .loop .k ≡ length (run (p .ty)) = omega (arith, v .0, n) in
+    holds rows
+    (counted _ (run (p .ty)) _ (v .2) (v .1) (ap (λ (k : ℕ). take k (c .before .before .loop .run)) n ∙ copied-run (now (c .before .before .before .before .before .before .before .before .before .before .before .args .words)) (64 * c .before .before .before .before .before .before .before .before .before .before .before .args .i) (c .before .before .loop .run) (run (p .ty)) (omega (arith, v .2, r .stored .short)) (λ j h. v .4 j (omega arith)) (r .words-at)))
+    (poison-noted (length (run (p .ty))) _ (r .stored .short) (r .noted) (c .noted-poison .ensures))
+    (r .stored .good)
 
 pub local-type-spec : {M : Type 1} → statement M
 local-type-spec =
@@ -31,9 +53,9 @@ local-type-spec =
     (λ c. λ rows names p r. absurd (omega (arith, r .counted, (c .before .if2 .taken))))
     (λ c. search needs)
     (λ c. search needs)
-    (λ c. omega (arith, c .before .before .before .shared-slice-known2 .given (c .before .before .before .before .before .args .i)))
     (λ c κs. search needs)
-    (λ c. λ rows names p r. absurd (omega (arith, r .count, r .stored .short, (c .before .if3 .taken))))
+    (λ c κs. search needs)
+    returns-3
     (λ c. search needs)
     (λ c. search needs)
     (λ c κs. search needs)
@@ -47,9 +69,6 @@ local-type-spec =
     (λ c. search needs)
     (λ c. search needs)
     (λ c. search needs)
-    (λ c. let v = c .before .before .loop .inv in
-    (omega (arith, v .0), v .1, simp length-set (v .2), v .3, copied-more (now (c .before .before .before .before .before .before .before .before .before .before .args .words)) (64 * c .before .before .before .before .before .before .before .before .before .before .args .i) (c .before .before .loop .run) (c .before .before .loop .k) _ (omega (arith, v .1, v .2)) refl (v .4)))
-    (λ c. λ rows names p r.
-    let v = c .before .loop .inv in
-    let i : c .before .loop .k ≡ length (run (p .ty)) = omega (arith, v .0, r .count) in
-    holds rows (counted _ (run (p .ty)) _ (v .2) (v .1) (ap (λ (k : ℕ). take k (c .before .loop .run)) (r .count) ∙ copied-run (now (c .before .before .before .before .before .before .before .before .before .args .words)) (64 * c .before .before .before .before .before .before .before .before .before .args .i) (c .before .loop .run) (run (p .ty)) (omega (arith, v .2, r .stored .short)) (λ j h. v .4 j (omega arith)) (r .words-at))) (r .stored .good)))
+    loop-again
+    (λ c κs. search needs)
+    returns-5)

@@ -1,4 +1,4 @@
--- `subst_params::argument` meets its contract. Assumes nothing.
+-- `subst_params::argument` meets its contract. The loop's invariant: i words are copied. Assumes nothing.
 use borrow.Author.Needs.{needs}
 use Prim.Native.Nat.{ℕ, _+_, _-_, _≤_}
 use mathlib.Core.Path.{_≡_, refl, ap, _∙_}
@@ -6,7 +6,9 @@ use native.Mathlib.Omega.{arith}
 use denote.Ref.{now}
 use lib.ListN.{length, take, length-set}
 use Rattle.rules.specs.Syntax.{run}
+use Rattle.rules.specs.Types.{contains-poison}
 use Rattle.type_words.proofs.Runs.{counted}
+use Rattle.type_words.proofs.Noted.{count-noted, poison-noted}
 use Rattle.type_words.proofs.Trees.{holds}
 use Rattle.type_from_pool.specs.Copies.{Copied}
 use Rattle.type_from_pool.proofs.Copies.{copied-more, copied-run}
@@ -14,36 +16,38 @@ use Rattle.subst_params.proofs.argument.Statement.{statement}
 use Rattle.subst_params.proofs.argument.Tie as tie
 
 abbrev Inv-loop : tie.InvT-loop
-Inv-loop table at n words₀ i₀ words i = (i ≤ n) × (n ≤ 64) × (length words ≡ 64) × (at + 66 ≤ length table) × Copied table (at + 2) words i
+Inv-loop table at note n words₀ i₀ words i = (i ≤ n) × (n ≤ 64) × (length words ≡ 64) × (at + 66 ≤ length table) × Copied table (at + 2) words i
 
 abbrev μ-loop : tie.MeasureT-loop
-μ-loop table at n words₀ i₀ words i = n - i
+μ-loop table at note n words₀ i₀ words i = n - i
 
 returns : tie.Need-returns Inv-loop μ-loop
-returns c names p r =
-    absurd (omega (arith, r .inside, c .before .before .less .ensures, (c .before .if1 .taken)))
-
-cast-n : tie.Need-cast-n Inv-loop μ-loop
-cast-n c = omega (arith, c .shared-slice-known2 .given (c .before .before .before .before .args .at + 1))
+returns c names p r = absurd (omega (arith, r .inside, c .before .before .less .ensures, (c .before .if1 .taken)))
 
 returns-2 : tie.Need-returns-2 Inv-loop μ-loop
 returns-2 c names p r =
-    absurd (omega (arith, r .count, r .stored .short, (c .before .if2 .taken)))
+    let n : c .before .before .noted-count .result ≡ length (run (p .ty)) = count-noted _ (contains-poison (p .ty)) (r .stored .short) (r .noted) (c .before .before .noted-count .ensures) in
+    absurd (omega (arith, n, r .stored .short, (c .before .if2 .taken)))
 
 loop-holds : tie.Need-loop-holds Inv-loop μ-loop
-loop-holds c = (omega arith, omega arith, search needs, omega (arith, c .before .before .before .less .ensures, (c .before .before .if1 .left)), λ j h. absurd (omega arith))
+loop-holds c = (omega arith, omega arith, search needs, omega (arith, c .before .before .before .before .less .ensures, (c .before .before .before .if1 .left)), λ j h. absurd (omega arith))
 
 loop-again : tie.Need-loop-again Inv-loop μ-loop
-loop-again c = let v = c .before .before .loop .inv in
-    let a = c .before .before .before .before .before .before .before .before .args in
+loop-again c =
+    let v = c .before .before .loop .inv in
+    let a = c .before .before .before .before .before .before .before .before .before .args in
     (omega (arith, v .0), v .1, simp length-set (v .2), v .3, copied-more (now (a .table)) (a .at + 2) (c .before .before .loop .words) (c .before .before .loop .i) _ (omega (arith, v .1, v .2)) refl (v .4))
 
 returns-3 : tie.Need-returns-3 Inv-loop μ-loop
 returns-3 c names p r =
-    let v = c .before .loop .inv in
-    let a = c .before .before .before .before .before .before .before .args in
-    let i : c .before .loop .i ≡ length (run (p .ty)) = omega (arith, v .0, r .count) in
-    holds names (counted (c .before .loop .words) (run (p .ty)) _ (v .2) (v .1) (ap (λ (k : ℕ). take k (c .before .loop .words)) (r .count) ∙ copied-run (now (a .table)) (a .at + 2) (c .before .loop .words) (run (p .ty)) (omega (arith, v .2, r .stored .short)) (λ j h. v .4 j (omega arith)) (r .words))) (r .stored .good)
+    let v = c .before .before .loop .inv in
+    let a = c .before .before .before .before .before .before .before .before .before .args in
+    let n : c .before .before .before .before .noted-count .result ≡ length (run (p .ty)) = count-noted _ (contains-poison (p .ty)) (r .stored .short) (r .noted) (c .before .before .before .before .noted-count .ensures) in
+    let i : c .before .before .loop .i ≡ length (run (p .ty)) = omega (arith, v .0, n) in
+    holds names
+    (counted (c .before .before .loop .words) (run (p .ty)) _ (v .2) (v .1) (ap (λ (k : ℕ). take k (c .before .before .loop .words)) n ∙ copied-run (now (a .table)) (a .at + 2) (c .before .before .loop .words) (run (p .ty)) (omega (arith, v .2, r .stored .short)) (λ j h. v .4 j (omega arith)) (r .words)))
+    (poison-noted (length (run (p .ty))) _ (r .stored .short) (r .noted) (c .noted-poison .ensures))
+    (r .stored .good)
 
 pub argument-spec : {M : Type 1} → statement M
 argument-spec =
@@ -57,7 +61,7 @@ argument-spec =
     (λ c. search needs)
     (λ c. search needs)
     (λ c. search needs)
-    cast-n
+    (λ c κs. search needs)
     (λ c κs. search needs)
     returns-2
     loop-holds
@@ -70,4 +74,5 @@ argument-spec =
     (λ c. search needs)
     (λ c. search needs)
     loop-again
+    (λ c κs. search needs)
     returns-3)

@@ -10,13 +10,10 @@ use Rattle.subst_params.proofs.write_row.Statement.{statement}
 use Rattle.subst_params.proofs.write_row.Tie as tie
 
 abbrev Inv-loop : tie.InvT-loop
-Inv-loop table₀ at n words i₀ table i = (i ≤ 64) × Filled table₀ words (at + 2) table i
+Inv-loop table₀ at words i₀ table i = (i ≤ 64) × Filled table₀ words (at + 2) table i
 
 abbrev μ-loop : tie.MeasureT-loop
-μ-loop table₀ at n words i₀ table i = 64 - i
-
-cast-table : tie.Need-cast-table Inv-loop μ-loop
-cast-table c = omega (arith, c .before .count .ensures .1)
+μ-loop table₀ at words i₀ table i = 64 - i
 
 slice-write-table-2 : tie.Need-slice-write-table-2 Inv-loop μ-loop
 slice-write-table-2 c = simp length-set (omega (arith, c .before .before .before .pre))
@@ -28,14 +25,14 @@ loop-again : tie.Need-loop-again Inv-loop μ-loop
 loop-again c = (omega arith, filled-more _ _ _ _ (c .before .loop .i) (omega arith) (c .before .loop .inv .1))
 
 same-length : tie.Need-same-length Inv-loop μ-loop
-same-length c = let v = c .before .loop .inv in
+same-length c =
     let a = c .before .before .before .before .before .args in
-    written (now (a .table)) (c .before .loop .table) (a .at) (a .name .0) (c .before .before .before .count .result) (c .before .loop .i) (a .ty) (c .before .before .before .before .before .pre) (omega arith) (v .1) (c .before .before .before .count .ensures .0) (c .before .before .before .count .ensures .1) .size
+    written (now (a .table)) (c .before .loop .table) (a .at) (a .name .0) (c .before .before .note-of .result) (c .before .loop .i) (a .ty) (c .before .before .before .before .before .pre) (omega arith) (c .before .loop .inv .1) (c .before .before .note-of .ensures) .size
 
 returns : tie.Need-returns Inv-loop μ-loop
-returns c = let v = c .before .loop .inv in
+returns c =
     let a = c .before .before .before .before .before .args in
-    written (now (a .table)) (c .before .loop .table) (a .at) (a .name .0) (c .before .before .before .count .result) (c .before .loop .i) (a .ty) (c .before .before .before .before .before .pre) (omega arith) (v .1) (c .before .before .before .count .ensures .0) (c .before .before .before .count .ensures .1)
+    written (now (a .table)) (c .before .loop .table) (a .at) (a .name .0) (c .before .before .note-of .result) (c .before .loop .i) (a .ty) (c .before .before .before .before .before .pre) (omega arith) (c .before .loop .inv .1) (c .before .before .note-of .ensures)
 
 pub write-row-spec : {M : Type 1} → statement M
 write-row-spec =
@@ -43,10 +40,9 @@ write-row-spec =
     (tie.spec
     Inv-loop
     μ-loop
+    (λ c. search needs)
+    (λ c. search needs)
     (λ c κs. search needs)
-    (λ c. search needs)
-    (λ c. search needs)
-    cast-table
     (λ c. search needs)
     (λ c. search needs)
     slice-write-table-2

@@ -7,7 +7,6 @@ use Rattle.rules.proofs.Types.{type-exact}
 use Rattle.image_words.proofs.Gives.{of}
 use Rattle.image_words.specs.Stands.{Stands}
 use Rattle.image_layout.specs.Open.{pool-words}
-use Rattle.type_words.proofs.Trees.{holds}
 use Rattle.pool_types.proofs.TypeAt.{type-gives}
 use Rattle.image_words.proofs.Stands.{reads-at}
 use Rattle.type_from_pool.proofs.hold_type.Statement.{statement}
@@ -17,7 +16,7 @@ returns : tie.Need-returns
 returns c t n s g =
     let a = c .before .before .before .before .args in
     let e = c .before .skip-type .ensures .0 (a .l .names .rows) t n (of (type-gives (a .l .names .rows) _ _) (reads-at (type-exact (a .l .names .rows)) t g s) .1 .parts) in
-    (holds (a .l .names .rows) (c .copy .ensures (run t) (subst (λ (k : ℕ). Stands (pool-words (a .image .now) (a .l)) (run t) (a .at) k) (sym e) s) (g .short)) (g .good), e)
+    (c .copy .ensures (a .l .names .rows) t (subst (λ (k : ℕ). Stands (pool-words (a .image .now) (a .l)) (run t) (a .at) k) (sym e) s) g, e)
 
 pub hold-type-spec : {M : Type 1} → statement M
 hold-type-spec =

@@ -47,7 +47,7 @@ returns-2 c = λ h. let a = c .before .before .before .before .before .before .b
       ok = refl;
       visits = k .visits;
       next = k .next;
-      poison = c .contains-poison .ensures (a .l .names .rows) (k .t) (k .holds);
+      poison = c .contains-poison .ensures .1 (a .l .names .rows) (k .t) (k .holds);
       writes = writes-same (param-is (c .before .before .before .before .before .before .before .before .section-word .ensures ∙ h .stands .name-at .is) (k .holds .run)) (writes-then (c .before .before .before .before .before .before .before .put .ensures) (c .before .before .before .put-type .ensures));
     })
 

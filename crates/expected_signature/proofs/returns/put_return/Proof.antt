@@ -46,7 +46,7 @@ returns-2 c = λ names o m. let q = c .before .before .before .before .before .b
       ok = refl;
       visits = refl;
       next = refl;
-      poison = some-clean names n (normalize-return o) q (not-false _ (c .before .before .before .before .before .before .before .before .before .before .if1 .left)) (c .contains-poison .ensures);
+      poison = some-clean names n (normalize-return o) q (not-false _ (c .before .before .before .before .before .before .before .before .before .before .if1 .left)) (c .contains-poison .ensures .1);
       writes = writes-same (some-words names n (normalize-return o) q (not-false _ (c .before .before .before .before .before .before .before .before .before .before .if1 .left))) (writes-then (c .before .before .before .before .before .before .before .put2 .ensures) (c .before .before .before .put-type .ensures));
     }
 

@@ -63,7 +63,7 @@ pub +append+expand+substitute-type-spec : {M : Type 1} → statement M
     (λ c κs. search needs)
     (substitute-type-add-section-word-2 t)
     (substitute-type-add-section-word-3 t)
-    (λ c κs. search needs)
+    (λ c κs. search (needs, c .before .before .before .before .before .before .before .before .before .before .before .pre .1 .inside))
     (substitute-type-push-fixed-requires t)
     (substitute-type-returns-5 t)
     (λ c. search needs)

@@ -7,4 +7,4 @@ use Rattle.type_words.proofs.HeldType.plain.Statement.{statement}
 use Rattle.type_words.proofs.HeldType.plain.Tie as tie
 
 pub plain-spec : {M : Type 1} → statement M
-plain-spec = tie.close (tie.spec (λ c. search needs) (λ c. counted _ _ 1 refl (lit≤ tt) refl))
+plain-spec = tie.close (tie.spec (λ c. search needs) (λ c. record { runs = counted _ _ 1 refl (lit≤ tt) refl; poison = refl }))

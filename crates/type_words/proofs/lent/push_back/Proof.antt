@@ -27,7 +27,7 @@ returns : tie.Need-returns Inv-loop μ-loop
 returns c =
     let a = c .before .before .args in
     let w : length (a .words .now) ≡ 64 = c .before .before .pre .0 in
-    (not-grown _ _ (simp (length-append, length-take) (omega (arith, c .before .count .ensures .0))), w)
+    (λ p. not-grown _ _ (simp (length-append, length-take) (omega (arith, c .before .count .ensures .0))), w)
 
 loop-holds : tie.Need-loop-holds Inv-loop μ-loop
 loop-holds c =
@@ -56,7 +56,7 @@ returns-2 c =
     let s = c .before .before .before in
     let v = c .before .loop .inv in
     let e : c .before .loop .i ≡ s .count .result = omega (arith, v .within) in (
-      grown _ _ (counted _ _ _ (v .wide) (v .room)
+      λ p. grown _ _ (counted _ _ _ (v .wide) (v .room)
           (rw e at (v .copied) ∙ ap (λ (l : List ℕ). take (s .before .args .n) (s .before .args .words .now) ++ l) (run-take (s .before .args .t3) _ (v .from-wide) (s .count .ensures .0)))),
       v .wide,
     )

@@ -29,7 +29,7 @@ returns : tie.Need-returns Inv-loop μ-loop
 returns c =
     let a = c .before .args in
     let w : length (a .words .now) ≡ 64 = c .before .pre in
-    (not-grown _ _ (omega (arith, length-take (a .n) (a .words .now))), w)
+    (λ p. not-grown _ _ (omega (arith, length-take (a .n) (a .words .now))), w)
 
 loop-holds : tie.Need-loop-holds Inv-loop μ-loop
 loop-holds c = record {
@@ -61,7 +61,7 @@ returns-2 : tie.Need-returns-2 Inv-loop μ-loop
 returns-2 c =
     let v = c .before .loop .inv in
     let e : c .before .loop .i ≡ c .before .before .before .args .n + 1 = omega (arith, v .within) in
-    (grown _ _ (counted _ _ _ (v .wide) (omega (arith, v .room)) (rw e at (v .front) ∙ rw add-one)), v .wide)
+    (λ p. grown _ _ (counted _ _ _ (v .wide) (omega (arith, v .room)) (rw e at (v .front) ∙ rw add-one)), v .wide)
 
 pub push-front-spec : {M : Type 1} → statement M
 push-front-spec =

@@ -39,13 +39,13 @@ expand-returns t c =
       record {
         falls = omega (arith, h .falls, s .1, e .1 .falls);
         wide = e .1 .wide;
-        means = λ σ o f le p x end y t z.
-            let v = one-view (a .l .names .rows) _ _ (c .before .before .before .before .before .before .before .before .before .before .rows .result .now) (a .alias .param .0) (p .name) (record { words = a .words .now; len = a .n }) t (c .before .before .before .before .before .before .before .before .before .before .before .before .before .write-row .ensures) refl (c .before .before .before .before .before .before .before .before .before .before .rows .ensures) x z in
+        means = λ σ o f le p x end y t z next.
+            let v = one-view (a .l .names .rows) _ _ (c .before .before .before .before .before .before .before .before .before .before .rows .result .now) (a .alias .param .0) (p .name) (record { words = a .words .now; len = a .n; poison = a .poison }) t (c .before .before .before .before .before .before .before .before .before .before .before .before .before .write-row .ensures) refl (c .before .before .before .before .before .before .before .before .before .before .rows .ensures) x z in
             says-at
-            (alias-arm (a .image .now) (a .l) (a .alias .target) (a .left) (c .before .before .before .before .before .before .before .before .before .before .rows .result .now) b (c .before .before .before .before .before .before .before .before .before .node-at .result .alias) (λ z. omega (arith, k .2 .0, z)) (k .3) (k .1) (k .4) q (c .before .before .if2 .taken) (omega (arith, h .falls, s .1)) (record { ok = c .expand .result .ok; next = b .next; left = c .expand .result .left; ty = record { words = c .expand .last .1 .1 .1 .1 .1 .0; len = c .expand .result .len } }) refl
-            (λ σ o f le p x end y t z. says-at (e .1 .means σ o f le p x end y t z) (b .next) _ refl refl refl refl)
+            (alias-arm (a .image .now) (a .l) (a .alias .target) (a .left) (c .before .before .before .before .before .before .before .before .before .before .rows .result .now) b (c .before .before .before .before .before .before .before .before .before .node-at .result .alias) (λ z. omega (arith, k .2 .0, z)) (k .3) (k .1) (k .4) q (c .before .before .if2 .taken) (omega (arith, h .falls, s .1)) (record { ok = c .expand .result .ok; next = b .next; left = c .expand .result .left; ty = record { words = c .expand .last .1 .1 .1 .1 .0; len = c .expand .result .len; poison = c .expand .result .poison } }) refl
+            (λ σ o f le p x end y t z. e .1 .means σ o f le p x end y t z (b .next))
             σ o f le (record { name = p .name; ty = t } ∷ []) v (p .ty) end y)
-            (a .next) _ refl (e .0) refl refl;
+            next _ refl refl refl refl;
       },
     )
 
@@ -61,11 +61,11 @@ expand-returns-2 t c =
       record {
         falls = omega (arith, h .falls, s .1);
         wide = search (needs, c .before .before .before .before .before .substitute-type .ok);
-        means = λ σ o f le p x end y t z.
-            let v = one-view (a .l .names .rows) _ _ (c .before .before .before .before .before .before .before .before .rows .result .now) (a .alias .param .0) (p .name) (record { words = a .words .now; len = a .n }) t (c .before .before .before .before .before .before .before .before .before .before .before .write-row .ensures) refl (c .before .before .before .before .before .before .before .before .rows .ensures) x z in
+        means = λ σ o f le p x end y t z next.
+            let v = one-view (a .l .names .rows) _ _ (c .before .before .before .before .before .before .before .before .rows .result .now) (a .alias .param .0) (p .name) (record { words = a .words .now; len = a .n; poison = a .poison }) t (c .before .before .before .before .before .before .before .before .before .before .before .write-row .ensures) refl (c .before .before .before .before .before .before .before .before .rows .ensures) x z in
             says-at
             (stopped (a .image .now) (a .l) (a .alias .target) (a .left) (c .before .before .before .before .before .before .before .before .rows .result .now) b (c .before .before .before .before .before .before .before .node-at .result) (c .before .before .before .before .before .before .before .node-at .ensures) (λ z. omega (arith, k .0, z)) q (c .if2 .left) σ o f le (record { name = p .name; ty = t } ∷ []) v (p .ty) end y)
-            (a .next) _ refl refl refl refl;
+            next _ refl refl refl refl;
       },
     )
 
@@ -79,9 +79,9 @@ expand-returns-3 t c =
       refl,
       record {
         falls = omega (arith, h .falls, s .1);
-        wide = search (needs, c .before .before .before .before .substitute-type .ok);
-        means = λ σ o f le p x end y t z.
-            let v = one-view (a .l .names .rows) _ _ (c .before .before .before .before .before .before .before .rows .result .now) (a .alias .param .0) (p .name) (record { words = a .words .now; len = a .n }) t (c .before .before .before .before .before .before .before .before .before .before .write-row .ensures) refl (c .before .before .before .before .before .before .before .rows .ensures) x z in
-            says-at (q σ o f le (record { name = p .name; ty = t } ∷ []) v (p .ty) end y) (a .next) _ refl refl refl refl;
+        wide = search (needs, c .before .before .before .before .substitute-type .ok .1 .1 .1 .1 .1 .0 .1 .1 .0);
+        means = λ σ o f le p x end y t z next.
+            let v = one-view (a .l .names .rows) _ _ (c .before .before .before .before .before .before .before .rows .result .now) (a .alias .param .0) (p .name) (record { words = a .words .now; len = a .n; poison = a .poison }) t (c .before .before .before .before .before .before .before .before .before .before .write-row .ensures) refl (c .before .before .before .before .before .before .before .rows .ensures) x z in
+            says-at (q σ o f le (record { name = p .name; ty = t } ∷ []) v (p .ty) end y) next _ refl refl refl refl;
       },
     )

@@ -27,7 +27,7 @@ abbrev pub μ-append : Measures 3 append-kinds.ps ℕ
 μ-append κs a = a .1 .1 .1 .0 + a .1 .1 .1 .0 + 1
 
 abbrev pub μ-expand : Measures 2 expand-kinds.ps ℕ
-μ-expand κs a = a .1 .1 .1 .1 .0 + a .1 .1 .1 .1 .0 + 1
+μ-expand κs a = a .1 .1 .1 .0 + a .1 .1 .1 .0 + 1
 
 abbrev pub μ-substitute-type : Measures 2 substitute-type-kinds.ps ℕ
 μ-substitute-type κs a = a .1 .1 .1 .0 + a .1 .1 .1 .0

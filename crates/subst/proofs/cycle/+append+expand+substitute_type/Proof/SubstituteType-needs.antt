@@ -2,6 +2,7 @@
 use Prim.Native.Nat.{ℕ, _-_}
 use native.Mathlib.Omega.{arith}
 use mathlib.Core.Path.{refl, subst}
+use mathlib.Core.Bool.{false}
 use borrow.Author.Needs.{needs}
 use borrow.Author.Tests.{not-true, not-false}
 use Rattle.subst_leaves.specs.Nodes.{Substitutes}
@@ -50,7 +51,7 @@ substitute-type-returns-4 t c =
     let q = subst (λ (n : ℕ). Substitutes (a .image .now) (a .l) n (a .left - 1) (a .params .now) b) (k .0) (h .means) in
     record {
       falls = omega (arith, h .falls);
-      means = one-arm (a .image .now) (a .l) (a .at) (a .left) (a .params .now) b (not-false _ (c .before .before .before .before .before .before .before .if2 .left)) _ (c .before .push-front .result) (λ z. omega (arith, k .2 .0, z)) (k .3) q _ (c .before .before .before .section-word .ensures) (c .before .push-front .ensures .0);
+      means = one-arm (a .image .now) (a .l) (a .at) (a .left) (a .params .now) b (not-false _ (c .before .before .before .before .before .before .before .if2 .left)) _ (c .before .push-front .result) (λ z. omega (arith, k .2 .0, z)) (k .3) q _ (c .before .before .before .section-word .ensures) (c .before .push-front .ensures .0 (b .ty .poison));
     }
 
 pub substitute-type-add-section-word : (t : ℕ) → substitute-type-lts.Need-add-section-word (substitute-type-calls t) (substitute-type-at t) substitute-type.Post
@@ -80,7 +81,7 @@ substitute-type-returns-5 t c =
     let q = subst (λ (n : ℕ). Substitutes (a .image .now) (a .l) n (a .left - 1) (a .params .now) b) (k .0) (h .means) in
     record {
       falls = omega (arith, h .falls);
-      means = fixed-arm (a .image .now) (a .l) (a .at) (a .left) (a .params .now) b (not-false _ (c .before .before .before .before .before .before .before .before .if2 .left)) _ (c .before .push-fixed .result) (λ z. omega (arith, k .2 .0, z)) (k .3) q _ _ (c .before .before .before .before .section-word2 .ensures) (c .before .before .before .section-word3 .ensures) (c .before .push-fixed .ensures .0);
+      means = fixed-arm (a .image .now) (a .l) (a .at) (a .left) (a .params .now) b (not-false _ (c .before .before .before .before .before .before .before .before .if2 .left)) _ (c .before .push-fixed .result) (λ z. omega (arith, k .2 .0, z)) (k .3) q _ _ (c .before .before .before .before .section-word2 .ensures) (c .before .before .before .section-word3 .ensures) (c .before .push-fixed .ensures .0 (b .ty .poison));
     }
 
 pub substitute-type-push-front-requires-2 : (t : ℕ) → substitute-type-lts.Need-push-front-requires-2 (substitute-type-calls t) (substitute-type-at t) substitute-type.Post
@@ -95,26 +96,26 @@ substitute-type-returns-6 t c =
     let q = subst (λ (n : ℕ). Substitutes (a .image .now) (a .l) n (a .left - 1) (a .params .now) b) (k .0) (h .means) in
     record {
       falls = omega (arith, h .falls);
-      means = two-full (a .image .now) (a .l) (a .at) (a .left) (a .params .now) b (not-false _ (c .before .before .before .before .before .before .before .before .if2 .left)) _ (c .before .before .push-front2 .result) (λ z. omega (arith, k .2 .0, z)) (k .3) q _ (c .before .before .push-front2 .ensures .0) (not-true _ (c .if3 .taken)) _ refl;
+      means = two-full (a .image .now) (a .l) (a .at) (a .left) (a .params .now) b (not-false _ (c .before .before .before .before .before .before .before .before .if2 .left)) _ (c .before .before .push-front2 .result) (λ z. omega (arith, k .2 .0, z)) (k .3) q _ (c .before .before .push-front2 .ensures .0 false) (not-true _ (c .if3 .taken)) _ refl;
     }
 
 pub substitute-type-append-requires : (t : ℕ) → substitute-type-lts.Need-append-requires (substitute-type-calls t) (substitute-type-at t) substitute-type.Post
 substitute-type-append-requires t c κs =
     let a = c .before .before .before .before .before .before .before .before .before .before .before .before .before .before .before .before .args in
     let k = as-parts (a .image .now) (a .l) (a .at) (a .left) (c .before .before .before .before .before .before .before .before .before .before .before .before .before .node-at .result) (c .before .before .before .before .before .before .before .before .before .before .before .before .before .node-at .ensures) Parts.Two (c .before .before .before .before .before .before .enum-told4 .given .1) in
-    (omega (arith, c .before .before .before .before .before .before .before .before .before .before .before .before .before .before .before .before .pre .0, k .2 .0, c .before .before .before .before .before .before .before .before .before .before .substitute-type .ensures .falls), (c .before .before .before .before .before .before .before .before .before .before .before .before .before .before .before .before .pre .1, c .before .before .before .push-front2 .ensures .1, c .before .before .before .push-front2 .ensures .0 .runs (not-false _ (c .before .if3 .left)) .small))
+    (omega (arith, c .before .before .before .before .before .before .before .before .before .before .before .before .before .before .before .before .pre .0, k .2 .0, c .before .before .before .before .before .before .before .before .before .before .substitute-type .ensures .falls), (c .before .before .before .before .before .before .before .before .before .before .before .before .before .before .before .before .pre .1, c .before .before .before .push-front2 .ensures .1, c .before .before .before .push-front2 .ensures .0 false .runs (not-false _ (c .before .if3 .left)) .small))
 
 pub substitute-type-returns-7 : (t : ℕ) → substitute-type-lts.Need-returns-7 (substitute-type-calls t) (substitute-type-at t) substitute-type.Post
 substitute-type-returns-7 t c =
-    let a = c .before .before .before .before .before .before .before .before .before .before .before .before .before .before .before .before .before .before .args in
-    let h = c .before .before .before .before .before .before .before .before .before .before .before .before .substitute-type .ensures in
-    let b = c .before .before .before .before .before .before .before .before .before .before .before .before .substitute-type .result in
-    let e = c .before .append .ensures in
-    let k = as-parts (a .image .now) (a .l) (a .at) (a .left) (c .before .before .before .before .before .before .before .before .before .before .before .before .before .before .before .node-at .result) (c .before .before .before .before .before .before .before .before .before .before .before .before .before .before .before .node-at .ensures) Parts.Two (c .before .before .before .before .before .before .before .before .enum-told4 .given .1) in
+    let a = c .before .before .before .before .before .before .before .before .before .before .before .before .before .before .before .before .before .before .before .before .args in
+    let h = c .before .before .before .before .before .before .before .before .before .before .before .before .before .before .substitute-type .ensures in
+    let b = c .before .before .before .before .before .before .before .before .before .before .before .before .before .before .substitute-type .result in
+    let e = c .before .before .before .append .ensures in
+    let k = as-parts (a .image .now) (a .l) (a .at) (a .left) (c .before .before .before .before .before .before .before .before .before .before .before .before .before .before .before .before .before .node-at .result) (c .before .before .before .before .before .before .before .before .before .before .before .before .before .before .before .before .before .node-at .ensures) Parts.Two (c .before .before .before .before .before .before .before .before .before .before .enum-told4 .given .1) in
     let q = subst (λ (n : ℕ). Substitutes (a .image .now) (a .l) n (a .left - 1) (a .params .now) b) (k .0) (h .means) in
     record {
       falls = omega (arith, h .falls, e .falls);
-      means = two-arm (a .image .now) (a .l) (a .at) (a .left) (a .params .now) b (not-false _ (c .before .before .before .before .before .before .before .before .before .before .before .if2 .left)) _ (c .before .before .before .before .before .push-front2 .result) (λ z. omega (arith, k .2 .0, z)) (k .3) q _ (c .before .before .before .before .before .before .before .section-word4 .ensures) (c .before .before .before .before .before .push-front2 .ensures .0) (not-false _ (c .before .before .before .if3 .left)) (c .before .append .result) _ (e .means) (h .falls);
+      means = two-arm (a .image .now) (a .l) (a .at) (a .left) (a .params .now) b (not-false _ (c .before .before .before .before .before .before .before .before .before .before .before .before .before .if2 .left)) _ (c .before .before .before .before .before .before .before .push-front2 .result) (λ z. omega (arith, k .2 .0, z)) (k .3) q _ (c .before .before .before .before .before .before .before .before .before .section-word4 .ensures) (c .before .before .before .before .before .before .before .push-front2 .ensures .0 false) (not-false _ (c .before .before .before .before .before .if3 .left)) (c .before .before .before .append .result) _ (e .means) (h .falls);
     }
 
 pub substitute-type-expand-requires : (t : ℕ) → substitute-type-lts.Need-expand-requires (substitute-type-calls t) (substitute-type-at t) substitute-type.Post
@@ -125,13 +126,13 @@ substitute-type-expand-requires t c κs =
 
 pub substitute-type-returns-8 : (t : ℕ) → substitute-type-lts.Need-returns-8 (substitute-type-calls t) (substitute-type-at t) substitute-type.Post
 substitute-type-returns-8 t c =
-    let a = c .before .before .before .before .before .before .before .before .before .before .before .before .before .args in
-    let h = c .before .before .before .before .before .before .before .substitute-type .ensures in
-    let b = c .before .before .before .before .before .before .before .substitute-type .result in
-    let e = c .before .expand .ensures in
-    let k = as-parts (a .image .now) (a .l) (a .at) (a .left) (c .before .before .before .before .before .before .before .before .before .before .node-at .result) (c .before .before .before .before .before .before .before .before .before .before .node-at .ensures) Parts.Alias (c .before .before .before .enum-told5 .given .1) in
+    let a = c .before .before .before .before .before .before .before .before .before .before .before .before .before .before .args in
+    let h = c .before .before .before .before .before .before .before .before .substitute-type .ensures in
+    let b = c .before .before .before .before .before .before .before .before .substitute-type .result in
+    let e = c .before .before .expand .ensures in
+    let k = as-parts (a .image .now) (a .l) (a .at) (a .left) (c .before .before .before .before .before .before .before .before .before .before .before .node-at .result) (c .before .before .before .before .before .before .before .before .before .before .before .node-at .ensures) Parts.Alias (c .before .before .before .before .enum-told5 .given .1) in
     let q = subst (λ (n : ℕ). Substitutes (a .image .now) (a .l) n (a .left - 1) (a .params .now) b) (k .0) (h .means) in
     record {
       falls = omega (arith, h .falls, e .1 .falls);
-      means = alias-arm (a .image .now) (a .l) (a .at) (a .left) (a .params .now) b (c .before .before .before .before .before .before .before .before .before .before .node-at .result .alias) (λ z. omega (arith, k .2 .0, z)) (k .3) (k .1) (k .4) q (not-false _ (c .before .before .before .before .before .before .if2 .left)) (h .falls) _ (e .0) (e .1 .means);
+      means = alias-arm (a .image .now) (a .l) (a .at) (a .left) (a .params .now) b (c .before .before .before .before .before .before .before .before .before .before .before .node-at .result .alias) (λ z. omega (arith, k .2 .0, z)) (k .3) (k .1) (k .4) q (not-false _ (c .before .before .before .before .before .before .before .if2 .left)) (h .falls) _ refl (λ σ o f le p x end y t z. e .1 .means σ o f le p x end y t z (b .next));
     }
