@@ -1,6 +1,6 @@
 //! Runs the Rust in a child process, where it may die: on an alias that never ends it overflows its stack.
 
-use std::io::{Read, Write};
+use std::io::{ErrorKind, Read, Write};
 use std::process::{Command, ExitStatus, Stdio};
 
 use crate::case::Case;
@@ -36,7 +36,11 @@ pub fn ask(case: &Case) -> Result<ExitStatus, String> {
         .spawn()
         .map_err(|error| format!("cannot start a child process: {error}"))?;
     let mut input = child.stdin.take().ok_or("a child process without input")?;
-    input.write_all(&case.image).map_err(|error| error.to_string())?;
+    // A child that ends before it has read all has still a status, which counts.
+    input.write_all(&case.image).or_else(|error| match error.kind() {
+        ErrorKind::BrokenPipe => Ok(()),
+        _ => Err(error.to_string()),
+    })?;
     drop(input);
     child.wait().map_err(|error| error.to_string())
 }

@@ -15,7 +15,7 @@ const BATCH: usize = 256;
 /// A side is asked so often, and its fastest time counts: a busy machine must not count.
 const ROUNDS: usize = 3;
 
-const SOURCES: [(Source, &str); 8] = [
+const SOURCES: [(Source, &str); 9] = [
     (Source::Edge, "edge"),
     (Source::Alike, "alike"),
     (Source::Rich, "rich"),
@@ -23,6 +23,7 @@ const SOURCES: [(Source, &str); 8] = [
     (Source::Deep, "deep"),
     (Source::Halves, "halves"),
     (Source::Utf8, "utf8"),
+    (Source::Held, "held"),
     (Source::Damaged, "damaged"),
 ];
 

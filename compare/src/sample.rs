@@ -31,16 +31,22 @@ const ASKED_TWICE: [&str; 13] = [
 ];
 
 const ONCE: &[Call] = &[Call::ProjectImpl];
+const SIGNATURES: &[Call] = &[Call::ExpectedSignatures];
 const TWICE: &[Call] = &[Call::ProjectImpl, Call::ExpectedSignatures];
 
-/// Edges that are stored behind all else, by how their labels start: what needs the most stack, then qualified names, then texts.
-const BEHIND: [&str; 3] = ["stack-", HALVES, UTF8];
+/// Edges that are stored behind all else, by how their labels start: what needs the most stack, then qualified names, then texts,
+/// then held types.
+const BEHIND: [&str; 4] = ["stack-", HALVES, UTF8, HELD];
 const HALVES: &str = "halves-";
 const UTF8: &str = "utf8-";
+const HELD: &str = "held-";
 
 /// Of the edges of texts, those that are asked for their signatures too, and the one that is also asked with too short a detail.
 const TEXTS_ASKED_TWICE: [&str; 3] = ["utf8-bad-unused-name", "utf8-bad-unused-string", "utf8-good-qualified"];
 const SHORT_DETAIL: &str = "utf8-bad-unused-string";
+
+/// Of the edges of held types, those that the trait decides: they are asked for by one call or the other, by turns.
+const BY_TURNS: [&str; 3] = ["held-poison-", "held-clean-", "held-65-"];
 
 /// Of the edges that need the most stack those that were reported, the deepest of each kind in each code that was measured, and
 /// the deepest of all with a qualified name.
@@ -121,7 +127,8 @@ pub fn balanced(seed: u64, count: usize, most: usize, large: usize) -> Result<Sa
     Ok(sample)
 }
 
-/// The vectors: every edge, a few random cases of each number, the deepest edges, and those of qualified names and of texts.
+/// The vectors: every edge, a few random cases of each number, the deepest edges, and those of qualified names, of texts and of held
+/// types.
 pub fn vectors(seed: u64) -> Result<Sample, String> {
     let mut judge = Judge::default();
     let mut sample = vec![];
@@ -178,6 +185,10 @@ fn chosen(behind: &[Edge]) -> Result<Vec<(&Edge, &'static [Call])>, String> {
     for edge in behind.iter().filter(|edge| edge.label.starts_with(UTF8)) {
         let twice = TEXTS_ASKED_TWICE.contains(&edge.label.as_str());
         chosen.push((edge, if twice { TWICE } else { ONCE }));
+    }
+    for (place, edge) in behind.iter().filter(|edge| edge.label.starts_with(HELD)).enumerate() {
+        let by_turns = BY_TURNS.iter().any(|start| edge.label.starts_with(start));
+        chosen.push((edge, if by_turns && place % 2 == 1 { SIGNATURES } else { ONCE }));
     }
     Ok(chosen)
 }

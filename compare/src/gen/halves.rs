@@ -147,7 +147,7 @@ impl Halves {
 }
 
 /// Puts an expression where the implementation's trait has a parameter, and now and then where it has a return too.
-fn place(rng: &mut Rng, model: &mut Model, row: u32, expression: Words) {
+pub fn place(rng: &mut Rng, model: &mut Model, row: u32, expression: Words) {
     let param = model.fresh_name(rng, NONE);
     let functions = &mut ensure_function(rng, model, row).functions;
     let place = rng.below(functions.len());

@@ -6,6 +6,7 @@ use super::damage::damage;
 use super::deep;
 use super::edges::edges;
 use super::halves;
+use super::held;
 use super::large;
 use super::model::Model;
 use super::nested;
@@ -28,6 +29,8 @@ pub enum Source {
     Halves,
     /// Rich or about qualified names, with texts that leave ASCII behind; some with a byte of a text or a row's place changed.
     Utf8,
+    /// Rich or small, with poison at any depth and what looks like it, types of 64 words and types that differ in one word.
+    Held,
     Damaged,
 }
 
@@ -53,10 +56,11 @@ struct Family {
     mask: u64,
 }
 
-const FAMILIES: [Family; 3] = [
+const FAMILIES: [Family; 4] = [
     Family { share: 4, make: make_deep, mask: u64::MAX },
     Family { share: 4, make: make_halves, mask: u64::MAX / 3 },
     Family { share: 8, make: make_utf8, mask: u64::MAX / 5 },
+    Family { share: 6, make: make_held, mask: u64::MAX / 17 },
 ];
 
 /// Makes images from a seed. A family has a stream of numbers of its own: the others are the same without it.
@@ -144,6 +148,13 @@ fn make_utf8(rng: &mut Rng) -> Made {
         }
     }
     made
+}
+
+/// Types that are held, sometimes with something else that is refused.
+fn make_held(rng: &mut Rng) -> Made {
+    let aim = if rng.chance(80) { 0 } else { *rng.pick(&AIMS) };
+    let rich = held::any(rng, aim);
+    laid_out(rng, Source::Held, &rich)
 }
 
 /// The image of a family's model; now and then damaged.

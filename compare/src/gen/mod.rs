@@ -8,6 +8,7 @@ mod damage;
 mod deep;
 mod edges;
 mod halves;
+mod held;
 mod images;
 mod large;
 mod model;

@@ -251,7 +251,7 @@ pub fn ensure_function<'a>(rng: &mut Rng, model: &'a mut Model, row: u32) -> &'a
 }
 
 /// A signature as the trait expects it, or as it is written where it cannot be had.
-type Signature = (u32, Vec<(u32, Words)>, Option<Words>);
+pub type Signature = (u32, Vec<(u32, Words)>, Option<Words>);
 
 /// Gives an implementation its functions: good ones, but for the one that is to be refused with 13 to 23.
 pub fn implement(rng: &mut Rng, model: &mut Model, row: u32, aim: Option<u32>) {
@@ -289,7 +289,7 @@ pub fn implement(rng: &mut Rng, model: &mut Model, row: u32, aim: Option<u32>) {
 }
 
 /// The signatures that the trait expects, by asking; the generator judges nothing, so it may ask the second reading.
-fn expected(model: &mut Model, row: u32) -> Vec<Signature> {
+pub fn expected(model: &mut Model, row: u32) -> Vec<Signature> {
     let (mut output, mut detail) = (vec![0; 65_536], [0; second::DETAIL_BYTES]);
     let image = model.plain_image();
     let answer = second::answer(Call::ExpectedSignatures, &image, row, &mut output, &mut detail);

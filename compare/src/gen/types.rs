@@ -8,7 +8,7 @@ pub const VOID: u32 = 13;
 pub const STRING: u32 = 32;
 
 /// Container codes with one part; 66 has two words more, 68 and 69 have two parts.
-const ONE_PART: [u32; 9] = [64, 65, 67, 70, 71, 72, 73, 74, 75];
+pub const ONE_PART: [u32; 9] = [64, 65, 67, 70, 71, 72, 73, 74, 75];
 
 /// A type that literals and operators are about.
 pub fn simple(rng: &mut Rng) -> Words {

@@ -2,6 +2,7 @@
 
 mod bodies;
 mod halves;
+mod held;
 mod image;
 mod lone;
 mod reported;
@@ -48,6 +49,7 @@ pub fn edges() -> Vec<Edge> {
     edges.stacks();
     edges.halves();
     edges.utf8();
+    edges.held();
     edges.0
 }
 
