@@ -15,7 +15,7 @@ use crate::second::Call;
 const ALONE: f64 = 5.0;
 const WITH: f64 = 10.0;
 
-/// Held types have 264 bytes; what holds one or two of them has less than so many.
+/// Held types have 272 bytes; what holds one or two of them has less than so many.
 const HELD: std::ops::Range<u64> = 256..1_024;
 
 const COPIES: [&str; 4] =
