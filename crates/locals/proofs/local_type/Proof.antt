@@ -1,17 +1,13 @@
 -- `locals::local_type` meets its contract. The loop's invariant: k words are copied. Assumes nothing.
 use borrow.Author.Needs.{needs}
-use Prim.Native.Nat.{ℕ, _+_, _-_, _*_, _≤_}
-use mathlib.Core.Path.{_≡_, refl, ap, _∙_}
+use Prim.Native.Nat.{_+_, _-_, _*_, _≤_}
+use mathlib.Core.Path.{_≡_, refl}
 use native.Mathlib.Omega.{arith}
 use denote.Ref.{now}
-use lib.ListN.{length, take, length-set}
-use Rattle.rules.specs.Syntax.{run}
-use Rattle.rules.specs.Types.{contains-poison}
-use Rattle.type_words.proofs.Runs.{counted}
-use Rattle.type_words.proofs.Noted.{count-noted, poison-noted}
-use Rattle.type_words.proofs.Trees.{holds}
+use lib.ListN.{length, length-set}
 use Rattle.type_from_pool.specs.Copies.{Copied}
-use Rattle.type_from_pool.proofs.Copies.{copied-more, copied-run}
+use Rattle.type_from_pool.proofs.Copies.{copied-more}
+use Rattle.type_from_pool.proofs.Resting.{few-read, type-read}
 use Rattle.locals.proofs.local_type.Statement.{statement}
 use Rattle.locals.proofs.local_type.Tie as tie
 
@@ -22,9 +18,7 @@ abbrev μ-loop : tie.MeasureT-loop
 μ-loop words lens i note n run₀ k₀ run k = n - k
 
 returns-3 : tie.Need-returns-3 Inv-loop μ-loop
-returns-3 c rows names p r =
-    let n : c .before .before .noted-count .result ≡ length (run (p .ty)) = count-noted _ (contains-poison (p .ty)) (r .stored .short) (r .noted) (c .before .before .noted-count .ensures) in
-    absurd (omega (arith, n, r .stored .short, (c .before .if3 .taken)))
+returns-3 c rows names p r = absurd (omega (arith, few-read rows (p .ty) (r .stored) (r .noted) (c .before .before .noted-count .ensures), (c .before .if3 .taken)))
 
 loop-again : tie.Need-loop-again Inv-loop μ-loop
 loop-again c =
@@ -34,12 +28,7 @@ loop-again c =
 returns-5 : tie.Need-returns-5 Inv-loop μ-loop
 returns-5 c rows names p r =
     let v = c .before .before .loop .inv in
-    let n : c .before .before .before .before .before .noted-count .result ≡ length (run (p .ty)) = count-noted _ (contains-poison (p .ty)) (r .stored .short) (r .noted) (c .before .before .before .before .before .noted-count .ensures) in
-    let i : c .before .before .loop .k ≡ length (run (p .ty)) = omega (arith, v .0, n) in
-    holds rows
-    (counted _ (run (p .ty)) _ (v .2) (v .1) (ap (λ (k : ℕ). take k (c .before .before .loop .run)) n ∙ copied-run (now (c .before .before .before .before .before .before .before .before .before .before .before .args .words)) (64 * c .before .before .before .before .before .before .before .before .before .before .before .args .i) (c .before .before .loop .run) (run (p .ty)) (omega (arith, v .2, r .stored .short)) (λ j h. v .4 j (omega arith)) (r .words-at)))
-    (poison-noted (length (run (p .ty))) _ (r .stored .short) (r .noted) (c .noted-poison .ensures))
-    (r .stored .good)
+    type-read rows (p .ty) (r .stored) (r .noted) (c .before .before .before .before .before .noted-count .ensures) (now (c .before .before .before .before .before .before .before .before .before .before .before .args .words)) (64 * c .before .before .before .before .before .before .before .before .before .before .before .args .i) (c .before .before .loop .run) (c .before .before .loop .k) (v .2) (omega arith) (v .4) (r .words-at) (c .noted-poison .ensures)
 
 pub local-type-spec : {M : Type 1} → statement M
 local-type-spec =

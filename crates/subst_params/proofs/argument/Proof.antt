@@ -1,17 +1,13 @@
 -- `subst_params::argument` meets its contract. The loop's invariant: i words are copied. Assumes nothing.
 use borrow.Author.Needs.{needs}
-use Prim.Native.Nat.{ℕ, _+_, _-_, _≤_}
-use mathlib.Core.Path.{_≡_, refl, ap, _∙_}
+use Prim.Native.Nat.{_+_, _-_, _≤_}
+use mathlib.Core.Path.{_≡_, refl}
 use native.Mathlib.Omega.{arith}
 use denote.Ref.{now}
-use lib.ListN.{length, take, length-set}
-use Rattle.rules.specs.Syntax.{run}
-use Rattle.rules.specs.Types.{contains-poison}
-use Rattle.type_words.proofs.Runs.{counted}
-use Rattle.type_words.proofs.Noted.{count-noted, poison-noted}
-use Rattle.type_words.proofs.Trees.{holds}
+use lib.ListN.{length, length-set}
 use Rattle.type_from_pool.specs.Copies.{Copied}
-use Rattle.type_from_pool.proofs.Copies.{copied-more, copied-run}
+use Rattle.type_from_pool.proofs.Copies.{copied-more}
+use Rattle.type_from_pool.proofs.Resting.{few-read, type-read}
 use Rattle.subst_params.proofs.argument.Statement.{statement}
 use Rattle.subst_params.proofs.argument.Tie as tie
 
@@ -25,9 +21,7 @@ returns : tie.Need-returns Inv-loop μ-loop
 returns c names p r = absurd (omega (arith, r .inside, c .before .before .less .ensures, (c .before .if1 .taken)))
 
 returns-2 : tie.Need-returns-2 Inv-loop μ-loop
-returns-2 c names p r =
-    let n : c .before .before .noted-count .result ≡ length (run (p .ty)) = count-noted _ (contains-poison (p .ty)) (r .stored .short) (r .noted) (c .before .before .noted-count .ensures) in
-    absurd (omega (arith, n, r .stored .short, (c .before .if2 .taken)))
+returns-2 c names p r = absurd (omega (arith, few-read names (p .ty) (r .stored) (r .noted) (c .before .before .noted-count .ensures), (c .before .if2 .taken)))
 
 loop-holds : tie.Need-loop-holds Inv-loop μ-loop
 loop-holds c = (omega arith, omega arith, search needs, omega (arith, c .before .before .before .before .less .ensures, (c .before .before .before .if1 .left)), λ j h. absurd (omega arith))
@@ -41,13 +35,7 @@ loop-again c =
 returns-3 : tie.Need-returns-3 Inv-loop μ-loop
 returns-3 c names p r =
     let v = c .before .before .loop .inv in
-    let a = c .before .before .before .before .before .before .before .before .before .args in
-    let n : c .before .before .before .before .noted-count .result ≡ length (run (p .ty)) = count-noted _ (contains-poison (p .ty)) (r .stored .short) (r .noted) (c .before .before .before .before .noted-count .ensures) in
-    let i : c .before .before .loop .i ≡ length (run (p .ty)) = omega (arith, v .0, n) in
-    holds names
-    (counted (c .before .before .loop .words) (run (p .ty)) _ (v .2) (v .1) (ap (λ (k : ℕ). take k (c .before .before .loop .words)) n ∙ copied-run (now (a .table)) (a .at + 2) (c .before .before .loop .words) (run (p .ty)) (omega (arith, v .2, r .stored .short)) (λ j h. v .4 j (omega arith)) (r .words)))
-    (poison-noted (length (run (p .ty))) _ (r .stored .short) (r .noted) (c .noted-poison .ensures))
-    (r .stored .good)
+    type-read names (p .ty) (r .stored) (r .noted) (c .before .before .before .before .noted-count .ensures) (now (c .before .before .before .before .before .before .before .before .before .args .table)) (c .before .before .before .before .before .before .before .before .before .args .at + 2) (c .before .before .loop .words) (c .before .before .loop .i) (v .2) (omega arith) (v .4) (r .words) (c .noted-poison .ensures)
 
 pub argument-spec : {M : Type 1} → statement M
 argument-spec =
