@@ -7,7 +7,7 @@ use crate::refusal::Refusal;
 use rules::ids::NameId;
 
 // The length is in bytes: written, or needed under 24.
-#[derive(Drop)]
+#[derive(Clone, Copy)]
 pub struct Answer {
     pub number: u32,
     pub function: NameId,
@@ -17,7 +17,7 @@ pub struct Answer {
 }
 
 // What a call on a readable image comes to before it is answered: a refusal, or so many bytes and visits.
-#[derive(Drop)]
+#[derive(Clone, Copy)]
 pub struct Outcome {
     pub ok: bool,
     pub refusal: Refusal,

@@ -11,7 +11,7 @@ use type_words::HeldType;
 // Words of the longest detail: 6, kind 4, of two types.
 pub const DETAIL_WORDS: usize = 131;
 
-#[derive(Drop)]
+#[derive(Clone, Copy)]
 pub struct Refusal {
     pub number: u32,
     pub function: NameId,

@@ -1,4 +1,5 @@
 // The calls: one code for all of them, told which is asked.
+#![tactic(auto)]
 ghost use Rattle.std.specs.Prelude.{◌≡◌, ◌≤◌, length};
 ghost use Rattle.rules.specs.Syntax.{CompiledSchema};
 ghost use Rattle.image_layout.specs.Rows.{Cut};
@@ -15,7 +16,7 @@ use image_layout::Layout;
 use impl_trait::Subject;
 use rules::ids::{NameId, TypeId};
 
-#[derive(Drop)]
+#[derive(Clone, Copy)]
 pub enum Call {
     Signatures,
     Projection,

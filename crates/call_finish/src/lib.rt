@@ -1,11 +1,12 @@
 // A call's answer, made of what its first pass came to: that pass writes into a buffer of our own, since a refusal leaves the output as found.
+#![tactic(auto)]
 ghost use Rattle.std.specs.Prelude.{◌≡◌, true, ◌<◌, ◌≤◌, ◌++◌, length, take, drop};
 ghost use Rattle.call_finish.specs.Ends.{Ends};
 
 use answers::answer::{Answer, Outcome};
 
 // Whether the call is answered. If not, its words fit the output and not the first pass's buffer: a second pass writes them.
-#[derive(Drop)]
+#[derive(Clone, Copy)]
 pub struct Ending {
     pub done: bool,
     pub answer: Answer,
@@ -16,7 +17,7 @@ fn copy_start(first: &[u8], output: &mut [u8], n: usize)
     requires { (n ≤ length first.now) × (n ≤ length output.old) }
     ensures { output.new ≡ take n first.now ++ drop n output.old }
 {
-    let copied = bytes::copy(&first[..n], output);
+    output[..n].copy_from_slice(&first[..n]);
 }
 
 // The first pass came to m, with its words in `first` as far as they fit it.

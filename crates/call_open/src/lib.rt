@@ -1,11 +1,12 @@
 // What both public calls do first.
+#![tactic(auto)]
 ghost use Rattle.call_open.specs.Fronts.{Fronts};
 
 use image_layout::Layout;
 use rules::bounds::DETAIL_BYTES;
 
 // What comes before a call: 1 or 2, or 0 and the readable image's layout.
-#[derive(Drop)]
+#[derive(Clone, Copy)]
 pub struct Front {
     pub number: u32,
     pub layout: Layout,

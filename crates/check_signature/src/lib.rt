@@ -1,4 +1,5 @@
 // An implementation's function against the signature that its trait asks for.
+#![tactic(auto)]
 mod params;
 mod parts;
 

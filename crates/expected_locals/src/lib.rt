@@ -1,4 +1,5 @@
 // The signature that a trait function asks for, held: its parameters in the table of locals, its return beside; and its words written from there.
+#![tactic(auto)]
 ghost use Rattle.std.specs.Prelude.{ℕ, ◌≤◌, length};
 ghost use Rattle.std.proofs.Math.Option.{Option, some};
 ghost use Rattle.rules.specs.Syntax.{ResolvedType};
@@ -17,7 +18,7 @@ use rules::ids::NameId;
 use type_words::{HeldType, MaybeType};
 
 // Whether the parameters keep the bounds; then how many they are, and the place behind them in the pool.
-#[derive(Drop)]
+#[derive(Clone, Copy)]
 pub struct Entered {
     pub ok: bool,
     pub count: usize,
@@ -25,7 +26,7 @@ pub struct Entered {
 }
 
 // Whether the return keeps the bounds; then its type or none, and the place behind it in the pool.
-#[derive(Drop)]
+#[derive(Clone, Copy)]
 pub struct Returned {
     pub ok: bool,
     pub ty: MaybeType,

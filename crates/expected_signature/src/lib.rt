@@ -1,4 +1,5 @@
 // The signature that a trait function asks for: its types substituted, and its words written.
+#![tactic(auto)]
 pub mod params;
 pub mod part;
 pub mod returns;

@@ -3,7 +3,7 @@ ghost use Rattle.std.specs.Prelude.{◌≡◌, false};
 
 // Whether the part keeps the bounds; then whether poison is in it, the place behind it in the pool, the place behind its words in the output, and
 // its visits.
-#[derive(Drop)]
+#[derive(Clone, Copy)]
 pub struct Part {
     pub ok: bool,
     pub poisoned: bool,

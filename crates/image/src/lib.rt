@@ -1,4 +1,5 @@
 // An image's verdict: readable or not, and then its layout.
+#![tactic(auto)]
 mod all;
 
 ghost use Rattle.std.specs.Prelude.{◌≡◌};

@@ -1,4 +1,5 @@
 // Where an image's sections lie, and its rows: all that a layer above knows of the image but the pool's words.
+#![tactic(auto)]
 ghost use Rattle.std.specs.Prelude.{◌≡◌};
 ghost use Rattle.image_layout.specs.Rows.{Inside, Fits, row_word, IsNameRow, IsStringRow, IsDefinitionRow};
 
@@ -10,7 +11,7 @@ use rules::kinds::DefinitionKind;
 pub const NOWHERE: u32 = 4294967295;
 
 // A section of rows, each of so many words: how wide a row is, this tells.
-#[derive(Drop)]
+#[derive(Clone, Copy)]
 pub struct Table {
     pub words: Section,
     pub rows: u32,
@@ -18,7 +19,7 @@ pub struct Table {
 }
 
 // The length of the texts, in bytes, and the sections behind them.
-#[derive(Drop)]
+#[derive(Clone, Copy)]
 pub struct Layout {
     pub texts: usize,
     pub names: Table,
@@ -28,14 +29,14 @@ pub struct Layout {
 }
 
 // What a reading of an image comes to: whether the image is readable, and then its layout.
-#[derive(Drop)]
+#[derive(Clone, Copy)]
 pub struct Opened {
     pub ok: bool,
     pub layout: Layout,
 }
 
 // A name's row: its text, its definition or NONE, its alias's place in the pool or NONE.
-#[derive(Drop)]
+#[derive(Clone, Copy)]
 pub struct NameRow {
     pub start: u32,
     pub size: u32,
@@ -44,14 +45,14 @@ pub struct NameRow {
 }
 
 // A string's row: its text.
-#[derive(Drop)]
+#[derive(Clone, Copy)]
 pub struct StringRow {
     pub start: u32,
     pub size: u32,
 }
 
 // A definition's row; past the rows its kind is Unknown.
-#[derive(Drop)]
+#[derive(Clone, Copy)]
 pub struct DefinitionRow {
     pub kind: DefinitionKind,
     pub start: u32,

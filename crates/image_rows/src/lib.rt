@@ -1,4 +1,5 @@
 // An image's rows of names, strings and definitions, each as the rules read it: one code for all, told which rows are meant.
+#![tactic(auto)]
 mod definitions;
 mod names;
 mod strings;
@@ -10,7 +11,7 @@ ghost use Rattle.image_rows.specs.Verdict.{table_of, RowSays, RowsSay};
 use image_layout::Layout;
 use rules::ids::{NameId, TypeId};
 
-#[derive(Drop)]
+#[derive(Clone, Copy)]
 pub enum Rows {
     Names,
     Strings,

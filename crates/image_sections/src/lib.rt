@@ -1,4 +1,5 @@
 // The layout that an image's trailer tells.
+#![tactic(auto)]
 ghost use Rattle.std.specs.Prelude.{◌≡◌, true, ◌*◌, ◌≤◌};
 ghost use Rattle.rules.specs.Image.{good_trailer};
 ghost use Rattle.image_trailer.specs.Trailers.{meant};

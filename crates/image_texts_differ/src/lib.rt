@@ -1,4 +1,5 @@
 // Whether all texts differ.
+#![tactic(auto)]
 ghost use Rattle.std.specs.Prelude.{◌≡◌, false, ◌+◌, ◌≤◌, ◌<◌, length};
 ghost use Rattle.rules.specs.Words.{same};
 ghost use Rattle.image_texts.specs.Rows.{row_text, new_row, rows_differ};

@@ -1,4 +1,5 @@
 // An image's trailer, read and tested.
+#![tactic(auto)]
 ghost use Rattle.std.specs.Prelude.{◌≡◌, ◌*◌, ◌≤◌, length};
 ghost use Rattle.rules.specs.Image.{whole_rows, good_trailer};
 ghost use Rattle.image_trailer.specs.Trailers.{meant, IsTrailer};
@@ -14,7 +15,7 @@ pub const STRING_WORDS: usize = 2;
 pub const DEFINITION_WORDS: usize = 2;
 
 // Where the sections start, the format, and the image's length.
-#[derive(Drop)]
+#[derive(Clone, Copy)]
 pub struct Trailer {
     pub names: usize,
     pub strings: usize,

@@ -1,17 +1,18 @@
 // Words of a section of the image, each found or refused: what every reading of the image is made of.
+#![tactic(auto)]
 ghost use Rattle.std.specs.Prelude.{◌≡◌, ℕ, suc, ◌+◌, ◌-◌, ◌<◌, List, get_or};
 ghost use Rattle.rules.specs.Reader.{word, below};
 ghost use Rattle.image_words.specs.Verdict.{section_words, Lies, Says};
 
 // Where a section starts in the image, in bytes, and how many words it has.
-#[derive(Drop)]
+#[derive(Clone, Copy)]
 pub struct Section {
     pub start: usize,
     pub len: usize,
 }
 
 // Whether something readable stands at a place, and the place behind it; 0 where nothing does.
-#[derive(Drop)]
+#[derive(Clone, Copy)]
 pub struct Checked {
     pub ok: bool,
     pub next: usize,

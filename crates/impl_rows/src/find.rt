@@ -14,7 +14,7 @@ use rules::ids::TypeId;
 use rules::kinds::DefinitionKind;
 
 // Whether a row is of the kind asked for, and where its body starts in the pool.
-#[derive(Drop)]
+#[derive(Clone, Copy)]
 pub struct Found {
     pub ok: bool,
     pub start: usize,

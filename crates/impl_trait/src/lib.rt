@@ -1,4 +1,5 @@
 // What a call is asked of: an implementation and its trait, where they stand in the pool.
+#![tactic(auto)]
 ghost use Rattle.rules.specs.Syntax.{CompiledSchema};
 ghost use Rattle.image_layout.specs.Rows.{Inside};
 ghost use Rattle.image_layout.specs.Open.{Open};
@@ -8,7 +9,7 @@ use image_layout::Layout;
 use rules::ids::{NameId, TypeId};
 
 // 3 or 4 and the name beside it; or 0, and the places of the trait, of the target type and of the type arguments.
-#[derive(Drop)]
+#[derive(Clone, Copy)]
 pub struct Subject {
     pub number: u32,
     pub name: NameId,

@@ -1,4 +1,5 @@
 // A function's context, what an expression is by itself there (a local, SelfRef, a field of SelfRef), and where its parts stand.
+#![tactic(auto)]
 ghost use Rattle.std.specs.Prelude.{◌≡◌, ◌+◌, ◌<◌, length, get_or};
 ghost use Rattle.rules.specs.Kinds.{expr_kind};
 ghost use Rattle.image_layout.specs.Rows.{Inside};
@@ -14,7 +15,7 @@ use rules::kinds::ExprKind;
 use type_words::MaybeType;
 
 // A function's context: its name, where the message's fields and the target type stand, and how many locals are in view.
-#[derive(Drop)]
+#[derive(Clone, Copy)]
 pub struct Context {
     pub function: NameId,
     pub fields: usize,
@@ -22,7 +23,7 @@ pub struct Context {
     pub count: usize,
 }
 
-#[derive(Drop)]
+#[derive(Clone, Copy)]
 pub enum PlaceKind {
     Local,
     Own,

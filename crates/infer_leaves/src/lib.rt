@@ -1,4 +1,5 @@
 // Expressions with no operator: literals, places, calls.
+#![tactic(auto)]
 ghost use Rattle.std.specs.Prelude.{◌≡◌, ℕ, ◌+◌, ◌*◌, ◌<◌};
 ghost use Rattle.rules.specs.Syntax.{Expr};
 ghost use Rattle.rules.specs.Fits.{literal_own};

@@ -12,7 +12,7 @@ use type_tests::same_type;
 use type_words::{HeldType, MaybeType};
 
 // Number 0 and the type; or the refusal's number, second name and detail: a word, for 20 the expected type, and a type.
-#[derive(Drop)]
+#[derive(Clone, Copy)]
 pub struct Inferred {
     pub number: u32,
     pub second: NameId,

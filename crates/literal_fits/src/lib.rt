@@ -1,4 +1,5 @@
 // Which literals a type takes. An i64 enters as its bits.
+#![tactic(auto)]
 ghost use Rattle.std.specs.Prelude.{◌≡◌, ℕ, ◌-◌, ◌^◌, ltb, pos};
 ghost use Rattle.std.specs.Int.Signed.{mag};
 ghost use Rattle.rules.specs.Fits.{takes, range_of, int_of, int_fits, uint_fits};
@@ -18,7 +19,7 @@ const NEGATIVE: u64 = 9223372036854775808;
 const LAST: u64 = 18446744073709551615;
 
 // The integers that a type takes: those of a signed or an unsigned width, all, or none.
-#[derive(Drop)]
+#[derive(Clone, Copy)]
 pub enum Range {
     Signed(u32),
     Unsigned(u32),

@@ -1,4 +1,5 @@
 // Whether a list of types, or of names with their types, stands in the pool, as the rules read it: one code, told which item is listed.
+#![tactic(auto)]
 ghost use Rattle.rules.specs.Reader.{many};
 ghost use Rattle.rules.specs.ReadTypes.{param};
 ghost use Rattle.image_words.specs.Verdict.{section_words, Lies, Says};
@@ -7,14 +8,14 @@ ghost use Rattle.pool_lists.specs.Items.{typed, item_reader};
 use image_words::{Checked, Section};
 
 // How a type stands there.
-#[derive(Drop)]
+#[derive(Clone, Copy)]
 pub enum Form {
     Resolved,
     Expression,
 }
 
 // A resolved type; a name, and its type.
-#[derive(Drop)]
+#[derive(Clone, Copy)]
 pub enum Item {
     Type,
     Named(Form),

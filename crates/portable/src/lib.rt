@@ -1,4 +1,5 @@
 // The public calls: an image, an implementation's number and two lent buffers in, an answer out.
+#![tactic(auto)]
 pub mod twice;
 
 ghost use Rattle.std.specs.Prelude.{◌≡◌};

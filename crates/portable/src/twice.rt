@@ -4,7 +4,7 @@ ghost use Rattle.portable.specs.Clauses.{made, ProjectsTwice};
 use answers::answer::Answer;
 use rules::ids::TypeId;
 
-#[derive(Drop)]
+#[derive(Clone, Copy)]
 pub struct Both {
     pub first: Answer,
     pub second: Answer,

@@ -9,7 +9,7 @@ ghost use Rattle.pool_types.specs.TypeAt.{TypeStands};
 use image_layout::Layout;
 
 // Its message's fields, its target type.
-#[derive(Drop)]
+#[derive(Clone, Copy)]
 pub struct Parts {
     pub fields: usize,
     pub target: usize,

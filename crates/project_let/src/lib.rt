@@ -1,4 +1,5 @@
 // Lets: a value under the type written or its own, and a local more.
+#![tactic(auto)]
 ghost use Rattle.std.specs.Prelude.{◌≤◌, length};
 ghost use Rattle.image_layout.specs.Rows.{Inside};
 ghost use Rattle.project_let.specs.Clauses.{WritesLet, ProjectsLet};
@@ -15,7 +16,7 @@ use type_words::HeldType;
 mod written;
 
 // What comes of one statement: its refusal, or where the next word goes; and how many locals are in view behind it.
-#[derive(Drop)]
+#[derive(Clone, Copy)]
 pub struct Step {
     pub done: Outcome,
     pub count: usize,

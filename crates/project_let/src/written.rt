@@ -7,7 +7,7 @@ use image_words::after;
 use type_words::MaybeType;
 
 // The type written on a Let, or none, and the place behind it.
-#[derive(Drop)]
+#[derive(Clone, Copy)]
 pub struct Wanted {
     pub ty: MaybeType,
     pub next: usize,

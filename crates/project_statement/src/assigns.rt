@@ -17,7 +17,7 @@ use rules::bounds::NESTING;
 use rules::ids::NameId;
 use rules::tags::{ExprTag, StatementTag};
 
-#[derive(Drop)]
+#[derive(Clone, Copy)]
 pub struct Assigned {
     pub ok: bool,
     pub field: NameId,

@@ -1,4 +1,5 @@
 // The typed functions of an image's lowest implementation.
+#![tactic(auto)]
 use call_answer::Call;
 
 fn main() {

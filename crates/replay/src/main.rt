@@ -1,5 +1,6 @@
 // Replays the stored cases: five fields and every byte of both buffers of each answer are compared. It writes what
 // differs, the edge cases that have names of their own, and how much was compared.
+#![tactic(auto)]
 ghost use Rattle.std.specs.Prelude.{◌≡◌, length};
 ghost use Rattle.io.specs.Counts.{IsPrefixLen};
 ghost use Rattle.lines.specs.Text.{Tells};

@@ -11,14 +11,14 @@ pub const MOST_OUTPUT: usize = 65536;
 pub const MOST_DETAIL: usize = 1024;
 
 // Bytes of the file.
-#[derive(Drop)]
+#[derive(Clone, Copy)]
 pub struct Part {
     pub start: usize,
     pub size: usize,
 }
 
 // A case by its places in the file; ok where all lies inside it and no more is lent than a replay has.
-#[derive(Drop)]
+#[derive(Clone, Copy)]
 pub struct Case {
     pub ok: bool,
     pub call: u32,

@@ -1,13 +1,24 @@
 // The labels, one a line in the cases' order.
-ghost use Rattle.std.specs.Prelude.{◌≤◌, ◌≡◌, length};
-ghost use Rattle.replay_cases.specs.Labels.{line_end, next_line};
+ghost use Rattle.std.specs.Prelude.{◌≤◌, ◌≡◌, length, nat_eq, position};
+ghost use Rattle.replay_cases.specs.Labels.{line_feed, line_end, next_line};
+
+// Where the first line feed is.
+fn first_line_feed(rest: &[u8]) -> Option<usize>
+    ensures { result ≡ position (nat_eq line_feed) rest.now }
+{
+    rest.iter().position(|b| *b == b'\n')
+}
 
 // Where the line that starts at a place ends.
 pub fn end(names: &[u8], start: usize) -> usize
     requires { start ≤ length names.now }
     ensures { (result ≡ line_end names.now start) × (result ≤ length names.now) }
 {
-    bytes::scan::find(names, start, names.len(), b'\n')
+    let rest = &names[start..];
+    match first_line_feed(rest) {
+        Some(i) => start + i,
+        None => names.len(),
+    }
 }
 
 // Where the line behind it starts.

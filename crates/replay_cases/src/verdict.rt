@@ -13,7 +13,7 @@ pub const OUTPUT_FILL: u8 = 170;
 pub const DETAIL_FILL: u8 = 85;
 
 // Which parts of an answer are as stored, and how many bytes of both buffers were compared.
-#[derive(Drop)]
+#[derive(Clone, Copy)]
 pub struct Compared {
     pub fields: bool,
     pub output: bool,

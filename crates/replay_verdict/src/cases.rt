@@ -9,14 +9,14 @@ use replay_cases::case::Case;
 use replay_cases::{case, labels};
 
 // The tally so far, and the place behind what is told.
-#[derive(Drop)]
+#[derive(Clone, Copy)]
 pub struct Step {
     pub tally: Tally,
     pub place: usize,
 }
 
 // What the cases come to, and the place behind what is told of them.
-#[derive(Drop)]
+#[derive(Clone, Copy)]
 pub struct Told {
     pub total: Total,
     pub place: usize,

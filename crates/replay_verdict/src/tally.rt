@@ -5,7 +5,7 @@ ghost use Rattle.replay_verdict.specs.Replayed.{tallied, none_yet};
 use replay_cases::verdict::Compared;
 
 // What was compared, and how many cases differ.
-#[derive(Drop)]
+#[derive(Clone, Copy)]
 pub struct Tally {
     pub cases: u32,
     pub bytes: usize,
@@ -13,7 +13,7 @@ pub struct Tally {
 }
 
 // What a file's cases come to, where it is whole; else up to the case at which that is seen.
-#[derive(Drop)]
+#[derive(Clone, Copy)]
 pub struct Total {
     pub whole: bool,
     pub reached: u32,

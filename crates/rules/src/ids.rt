@@ -1,9 +1,9 @@
 // A definition's number and a name's number, kept apart, and the constants that belong to their types by name.
 
-#[derive(Drop)]
+#[derive(Clone, Copy)]
 pub struct TypeId(pub u32);
 
-#[derive(Drop)]
+#[derive(Clone, Copy)]
 pub struct NameId(pub u32);
 
 impl TypeId {
@@ -17,7 +17,7 @@ impl NameId {
 }
 
 // A primitive's code, in the source's order.
-#[derive(Drop)]
+#[derive(Clone, Copy)]
 pub struct PrimitiveType(pub u32);
 
 impl PrimitiveType {

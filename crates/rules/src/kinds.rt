@@ -1,7 +1,7 @@
 // The kinds by which code matches: each code of 01 belongs to one.
 
 // Types, by shape.
-#[derive(Drop)]
+#[derive(Clone, Copy)]
 pub enum TypeKind {
     Plain,
     Sub,
@@ -15,7 +15,7 @@ pub enum TypeKind {
     Unknown,
 }
 
-#[derive(Drop)]
+#[derive(Clone, Copy)]
 pub enum ExprKind {
     Literal,
     Flag,
@@ -30,7 +30,7 @@ pub enum ExprKind {
     Unknown,
 }
 
-#[derive(Drop)]
+#[derive(Clone, Copy)]
 pub enum StatementKind {
     Expr,
     Let,
@@ -39,7 +39,7 @@ pub enum StatementKind {
     Unknown,
 }
 
-#[derive(Drop)]
+#[derive(Clone, Copy)]
 pub enum DefinitionKind {
     Other,
     Message,

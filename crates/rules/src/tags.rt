@@ -1,7 +1,7 @@
 // The words that tell what stands behind them, by name.
 
 // Types that are no primitive and that code asks for.
-#[derive(Drop)]
+#[derive(Clone, Copy)]
 pub struct TypeTag(pub u32);
 
 impl TypeTag {
@@ -25,7 +25,7 @@ impl TypeTag {
 }
 
 // Expressions: those below FLAG are literal numbers.
-#[derive(Drop)]
+#[derive(Clone, Copy)]
 pub struct ExprTag(pub u32);
 
 impl ExprTag {
@@ -48,7 +48,7 @@ impl ExprTag {
     pub const UNARY: u32 = 11;
 }
 
-#[derive(Drop)]
+#[derive(Clone, Copy)]
 pub struct StatementTag(pub u32);
 
 impl StatementTag {

@@ -1,4 +1,5 @@
 // The signatures that the trait of an image's lowest implementation asks for.
+#![tactic(auto)]
 use call_answer::Call;
 
 fn main() {

@@ -1,4 +1,5 @@
 // The place behind types and type expressions, by counting: on an image that is known to be readable no word is tested again.
+#![tactic(auto)]
 ghost use Rattle.std.specs.Prelude.{◌≡◌, ℕ, ◌+◌, ◌<◌, get_or};
 ghost use Rattle.rules.specs.Syntax.{ResolvedType, TypeExpr};
 ghost use Rattle.image_words.specs.Verdict.{section_words, Lies};
@@ -12,7 +13,7 @@ use image_words::Section;
 use rules::kinds::TypeKind;
 
 // A node's own words, and the parts that stand behind them.
-#[derive(Drop)]
+#[derive(Clone, Copy)]
 pub struct Node {
     pub words: usize,
     pub parts: usize,

@@ -19,7 +19,7 @@ use type_words::lent::{push_back, push_fixed, push_front, put_at};
 
 // What comes of an expression beside its words, which are lent: whether poison occurs in what it resolves to, and not in the
 // words before. The flags stand together: a frame of the cycle has such an end.
-#[derive(Drop)]
+#[derive(Clone, Copy)]
 pub struct End {
     pub ok: bool,
     pub poison: bool,

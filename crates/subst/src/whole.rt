@@ -7,7 +7,7 @@ use rules::bounds::VISITS;
 use type_words::HeldType;
 
 // Whether an expression keeps the bounds; then its visits, the place behind it, and its type.
-#[derive(Drop)]
+#[derive(Clone, Copy)]
 pub struct Substituted {
     pub ok: bool,
     pub visits: u32,

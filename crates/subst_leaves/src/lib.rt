@@ -1,4 +1,5 @@
 // Nodes with no part to resolve. Their visit is taken off already.
+#![tactic(auto)]
 ghost use Rattle.std.specs.Prelude.{◌<◌, ◌≡◌, false};
 ghost use Rattle.image_layout.specs.Rows.{Inside, Cut};
 ghost use Rattle.subst_leaves.specs.Says.{Keeps};
@@ -10,7 +11,7 @@ use type_words::HeldType;
 
 // What resolving comes to: the place behind the expression, the visits left, whether it keeps the bounds, the type. The small
 // fields stand together: each frame of the resolver's cycle has such an answer.
-#[derive(Drop)]
+#[derive(Clone, Copy)]
 pub struct Resolved {
     pub next: usize,
     pub left: u32,

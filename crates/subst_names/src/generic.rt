@@ -12,7 +12,7 @@ use rules::ids::NameId;
 use rules::kinds::DefinitionKind;
 
 // Whether there is such an alias; its parameter, and where its target stands in the pool.
-#[derive(Drop)]
+#[derive(Clone, Copy)]
 pub struct Alias {
     pub some: bool,
     pub param: NameId,

@@ -1,4 +1,5 @@
 // What a node of a type expression has to resolve, and nodes that have nothing.
+#![tactic(auto)]
 ghost use Rattle.std.specs.Prelude.{◌<◌, ◌≡◌, true, false};
 ghost use Rattle.subst_parts.specs.declared.Parts.{Parts};
 ghost use Rattle.image_layout.specs.Rows.{Cut};
@@ -13,7 +14,7 @@ use subst_leaves::{Resolved, failed};
 use subst_names::generic::{Alias, lookup_alias};
 
 // A node with no part, or with no visit left for it, is whole. An alias's parts are its argument, then its target.
-#[derive(Drop)]
+#[derive(Clone, Copy)]
 pub enum Parts {
     Whole,
     One,
@@ -23,7 +24,7 @@ pub enum Parts {
 }
 
 // A node's parts, where the first of them stands, and the alias that it names.
-#[derive(Drop)]
+#[derive(Clone, Copy)]
 pub struct Node {
     pub parts: Parts,
     pub first: usize,
@@ -96,7 +97,7 @@ pub fn node_at(image: &[u8], l: Layout, at: usize, left: u32) -> Node
 
 // Where an expression is resolved from behind n words: of a node of two parts, whose code has room there, from its first
 // part on, and then the second is still to come; anything else as it is.
-#[derive(Drop)]
+#[derive(Clone, Copy)]
 pub struct Behind {
     pub again: bool,
     pub at: usize,
@@ -140,7 +141,7 @@ fn as_it_is(at: usize, left: u32, n: usize) -> Behind
 }
 
 // What of an alias's target is resolved first, with the visits left for it: its argument, where it is an alias again.
-#[derive(Drop)]
+#[derive(Clone, Copy)]
 pub struct Start {
     pub at: usize,
     pub left: u32,

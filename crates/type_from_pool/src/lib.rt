@@ -1,4 +1,5 @@
 // A resolved type copied out of the pool.
+#![tactic(auto)]
 ghost use Rattle.std.specs.Prelude.{ℕ};
 ghost use Rattle.rules.specs.Syntax.{ResolvedType, run};
 ghost use Rattle.rules.specs.Good.{Stored};
@@ -16,7 +17,7 @@ use type_poison::{Seen, pass};
 use type_words::HeldType;
 
 // A type, and the place behind it.
-#[derive(Drop)]
+#[derive(Clone, Copy)]
 pub struct Held {
     pub ty: HeldType,
     pub next: usize,

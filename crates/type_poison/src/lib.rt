@@ -1,4 +1,5 @@
 // Whether poison occurs in a type: what the type tells, and how that is found while its words are copied.
+#![tactic(auto)]
 ghost use Rattle.std.specs.Prelude.{◌≤◌, ◌≡◌};
 ghost use Rattle.rules.specs.Types.{contains_poison};
 ghost use Rattle.type_words.specs.Holds.{Each};
@@ -20,7 +21,7 @@ pub fn contains_poison(ty: HeldType) -> bool
 
 // What is seen of a type whose words are passed one by one: whether a node so far is poison, and at which place the second
 // word of the next node stands.
-#[derive(Drop)]
+#[derive(Clone, Copy)]
 pub struct Seen {
     pub poison: bool,
     pub second: usize,

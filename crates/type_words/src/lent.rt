@@ -9,7 +9,7 @@ use rules::bounds::TYPE_WORDS;
 use rules::tags::TypeTag;
 
 // Whether the run could grow, and its count then.
-#[derive(Drop)]
+#[derive(Clone, Copy)]
 pub struct Longer {
     pub ok: bool,
     pub len: usize,

@@ -1,5 +1,6 @@
 // A resolved type, held as its words in prefix order with their count, and whether poison occurs in it; the few functions
 // that make one. Nothing is said of the words past the count.
+#![tactic(auto)]
 pub mod lent;
 pub mod notes;
 
@@ -11,7 +12,7 @@ use rules::bounds::TYPE_WORDS;
 use rules::ids::TypeId;
 use rules::tags::TypeTag;
 
-#[derive(Drop)]
+#[derive(Clone, Copy)]
 pub struct HeldType {
     pub words: [u32; TYPE_WORDS],
     pub len: usize,
@@ -19,7 +20,7 @@ pub struct HeldType {
 }
 
 // A type or none.
-#[derive(Drop)]
+#[derive(Clone, Copy)]
 pub struct MaybeType {
     pub some: bool,
     pub ty: HeldType,

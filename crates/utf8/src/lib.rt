@@ -1,4 +1,5 @@
 // Whether a text is well-formed UTF-8: one walk over its bytes, which holds what is due of the character begun.
+#![tactic(auto)]
 ghost use Rattle.std.specs.Prelude.{◌≡◌, ◌≤◌, length};
 ghost use Rattle.std.proofs.Math.Option.{none, some};
 ghost use Rattle.rules.specs.Utf8.{follow, well_formed};
@@ -7,7 +8,7 @@ ghost use Rattle.utf8.specs.Ascii.{ascii_to, Begins};
 
 // What is due of a character: so many bytes, the next one from `least` to `most`, those behind it from 80 to BF. Where this is not ok, no
 // well-formed text goes on so.
-#[derive(Drop)]
+#[derive(Clone, Copy)]
 pub struct Due {
     pub ok: bool,
     pub left: usize,

@@ -1,4 +1,6 @@
 // Little-endian words in a slice of bytes: reading, and writing below a limit.
+#![tactic(auto)]
+
 ghost use Rattle.std.specs.Prelude.{◌≡◌, ◌+◌, ◌≤◌, ◌<◌, length, get_or};
 ghost use Rattle.words.specs.Words.{word_at};
 ghost use Rattle.words.specs.Puts.{put};

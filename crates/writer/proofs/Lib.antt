@@ -1,4 +1,0 @@
-pub mod Shape
-pub mod Moves
-pub mod Loan
-pub mod Uses

@@ -1,5 +1,6 @@
 // The writer of the lent output: it holds the output and the place of the next word. A word that does not fit is not
 // written, and the place moves on all the same: over an empty slice a writer only counts.
+#![tactic(auto)]
 ghost use Rattle.std.specs.Prelude.{◌≡◌, ◌≤◌, ◌+◌, length};
 ghost use Rattle.words.specs.Puts.{put};
 ghost use Rattle.writer.specs.Moved.{moved_on};
@@ -54,7 +55,9 @@ pub fn write(out: &mut [u8], to: usize, x: u32) -> usize
     requires { to ≤ 1000000000 }
     ensures { (result ≡ to + 4) × (out.new ≡ put (length out.old) to x out.old) }
 {
-    place(put(at(out, to), x))
+    let w = at(out, to);
+    let next = w.next;
+    put_at(w.out, next, x)
 }
 
 // Two words, one behind the other, through one writer.
@@ -62,5 +65,8 @@ pub fn write_two(out: &mut [u8], to: usize, x: u32, y: u32) -> usize
     requires { to ≤ 999999996 }
     ensures { (result ≡ to + 8) × (out.new ≡ put (length out.old) (to + 4) y (put (length out.old) to x out.old)) }
 {
-    place(put(put(at(out, to), x), y))
+    let w = at(out, to);
+    let next = w.next;
+    let after = put_at(&mut *w.out, next, x);
+    put_at(w.out, after, y)
 }

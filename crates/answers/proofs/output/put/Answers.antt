@@ -1,0 +1,6 @@
+use Rattle.answers.proofs.Writes.{writes_one}
+use borrow.Author.Rules.{rules}
+use Rattle.answers.proofs.output.put.Goals as goal
+
+pub returns : goal.returns
+returns c = writes_one c.write.ensures.0 c.write.ensures.1

@@ -1,0 +1,16 @@
+use borrow.Author.Rules.{rules}
+use mathlib.Core.Path.{◌≡◌, refl, ap, ap₂, ◌∙◌}
+use Prim.Native.Nat.{ℕ, ◌+◌, ◌*◌, ◌-◌, ◌≤◌}
+use native.Mathlib.Omega.{arith}
+use lib.ListN.{length, take, get_or}
+use lib.Seq.{take_all}
+use mathlib.Core.List.{List}
+use Rattle.words.specs.Puts.{put, puts}
+use Rattle.words.proofs.Puts.{puts_step}
+use Rattle.answers.proofs.output.put_words.Given as goal
+
+abbrev pub invariant-loop-i : goal.invariant-loop-i
+invariant-loop-i l = (l.i ≤ length l.run) × (l.next ≡ l.at + 4 * l.i) × (l.out ≡ puts (length l.initial.out) l.at (take l.i l.run) l.initial.out) × (length l.out ≡ length l.initial.out)
+
+abbrev pub decreases-loop-i : goal.decreases-loop-i
+decreases-loop-i l = length l.run - l.i

@@ -1,0 +1,15 @@
+-- what is left of the two decides
+use mathlib.Core.Path.{◌≡◌, refl, sym, ◌∙◌}
+use Prim.Native.Nat.{◌-◌, ◌≤◌}
+use native.Mathlib.Omega.{arith}
+use borrow.Author.Rules.{rules}
+use lib.ListN.{length, drop}
+use Rattle.rules.specs.Words.{same}
+use Rattle.image_texts.proofs.SameLaws.{same_long, same_next, same_apart, same_end}
+use Rattle.image_texts.proofs.same.same_text.Given as goal
+
+abbrev pub invariant-loop-k : goal.invariant-loop-k
+invariant-loop-k l = (l.k ≤ length l.a) × (length l.a ≡ length l.b) × (same (drop l.k l.a) (drop l.k l.b) ≡ same l.a l.b)
+
+abbrev pub decreases-loop-k : goal.decreases-loop-k
+decreases-loop-k l = length l.a - l.k

@@ -1,0 +1,7 @@
+-- `lines::text::put_number` meets its contract. Assumes nothing.
+use borrow.Author.Rules.{rules}
+use Rattle.lines.proofs.Tells.{tells_then}
+use Rattle.lines.proofs.text.put_number.Goals as goal
+
+pub returns : goal.returns
+returns c = tells_then c.requires c.put_decimal-next.ensures c.put_bytes.ensures

@@ -1,0 +1,16 @@
+-- `pool_bodies::bodies::check_block` meets its contract: each turn leaves one statement less, and its Let is counted.
+use borrow.Author.Rules.{rules}
+use Prim.Native.Nat.{◌-◌, ◌≤◌}
+use native.Mathlib.Omega.{arith}
+use borrow.Author.Tests.{not-true, not-false}
+use Rattle.rules.specs.ReadBodies.{block}
+use Rattle.image_words.specs.Verdict.{section_words}
+use Rattle.image_words.proofs.Verdict.{Left}
+use Rattle.pool_bodies.proofs.Blocks.{rest, block_stop, block_starts, block_turn, block_turn_stop, block_full, block_done}
+use Rattle.pool_bodies.proofs.bodies.check_block.Given as goal
+
+abbrev pub invariant-loop-i : goal.invariant-loop-i
+invariant-loop-i l = Left (rest l.names l.strings (l.count - l.i) l.lets) l.next (block l.names l.strings) (section_words l.image l.pool) l.at × (l.lets ≤ l.i)
+
+abbrev pub decreases-loop-i : goal.decreases-loop-i
+decreases-loop-i l = l.count - l.i

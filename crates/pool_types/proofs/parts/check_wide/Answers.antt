@@ -1,0 +1,14 @@
+-- `pool_types::parts::check_wide` meets its contract: the answers follow the reader's steps.
+use borrow.Author.Tests.{not-true, not-false}
+use Rattle.rules.specs.ReadTypes.{wide}
+use Rattle.image_words.proofs.Says.{then, stop, last}
+use borrow.Author.Rules.{rules}
+use Rattle.pool_types.proofs.parts.check_wide.Goals as goal
+
+pub returns-then-not-low : goal.returns-then-not-low
+unfolding wide
+returns-then-not-low c = λ image lies. stop _ (c.check_word-low.ensures _ lies) (not-true _ c.if-not-low.true)
+
+pub returns : goal.returns
+unfolding wide
+returns c = λ image lies. then (c.check_word-low.ensures _ lies) (not-false _ c.if-not-low.false) (λ a. last _ (c.check_word.ensures _ lies))

@@ -1,0 +1,12 @@
+-- `utf8::behind_ascii` meets its contract. Assumes nothing.
+use Prim.Native.Nat.{◌-◌}
+use native.Mathlib.Omega.{arith}
+use borrow.Author.Rules.{rules}
+use borrow.Author.Tests.{not-false}
+use lib.ListN.{length, drop, length-take, length-drop}
+use Rattle.utf8.specs.Ascii.{Begins}
+use Rattle.utf8.proofs.AsciiLaws.{from_start, eight_further}
+use Rattle.utf8.proofs.behind_ascii.Goals as goal
+
+pub loop-i-preserved : goal.loop-i-preserved
+loop-i-preserved c = eight_further c.args.text.now c.loop-i.i c.loop-i.invariant (omega arith) c.eight_ascii.ensures (not-false _ c.if-not-eight_ascii.false-raw)
