@@ -5,8 +5,8 @@ ghost use Rattle.programs.specs.Clauses.{AnswersLowest, TellsLowest};
 
 use answers::answer::Answer;
 use call_answer::Call;
-use libc::{STDIN_FILENO, STDOUT_FILENO};
 use rules::bounds::{DETAIL_BYTES, IMAGE_BYTES};
+use std::io::Write;
 
 // What the programs lend for an output, as 01 has it.
 const OUTPUT_BYTES: usize = 65536;
@@ -44,17 +44,10 @@ fn room() -> [u8; LINES_BYTES]
 }
 
 // The call on the image in standard input, for its lowest implementation: answered, and its lines handed to one `write_all`.
-pub fn run(call: Call) {
+pub fn run<R: Input + Print>(rt: &R, call: Call) -> std::io::Result<()> {
     let mut image = [0u8; INPUT_BYTES];
-    let input = crate::input::read_to_end(STDIN_FILENO, &mut image);
-    if !input.ok {
-        os::fail(b"standard input");
-        return;
-    }
-    let len = input.len;
+    let len = crate::input::read_to_end(&mut rt.reader(), &mut image)?;
     let mut text = room();
     let n = answer_lines(call, &image[..len], &mut text);
-    if !io::write_all(STDOUT_FILENO, &text[..n]) {
-        os::fail(b"standard output");
-    }
+    std::io::writer(rt).write_all(&text[..n])
 }

@@ -1,44 +1,46 @@
 // Reading to the end.
+ghost use Rattle.std.specs.Prelude.{IfOk};
 ghost use Rattle.io.specs.Counts.{IsPrefixLen};
 
+use std::fs;
+use std::io::Read;
+use std::rt::Files;
+
 // How many bytes came; not ok where a read failed.
-#[derive(Drop)]
+#[derive(Clone, Copy)]
 pub struct Input {
     pub ok: bool,
     pub len: usize,
 }
 
 // Reads until the input ends or the bytes are full. A failed read is told apart from the end.
-pub fn read_to_end(fd: i32, bytes: &mut [u8]) -> Input
-    ensures { IsPrefixLen result.len bytes.new }
+pub fn read_to_end<R: Read>(input: &mut R, bytes: &mut [u8]) -> std::io::Result<usize>
+    ensures { IfOk result (λ n. IsPrefixLen n bytes.new) }
 {
     let mut n = 0;
     while n < bytes.len() {
-        let got = libc::read(fd, &mut bytes[n..]);
-        if got < 0 {
-            return Input { ok: false, len: 0 };
-        }
-        let more = io::count(got, &bytes[n..]);
+        let more = input.read(&mut bytes[n..])?;
         if more == 0 {
-            return Input { ok: true, len: n };
+            return Ok(n);
         }
         n += more;
     }
-    Input { ok: true, len: n }
+    Ok(n)
 }
 
 // Reads a whole file; not ok where it cannot be opened or read, or fills the bytes and so may be longer.
-pub fn read_file(path: &[u8], bytes: &mut [u8]) -> Input
+pub fn read_file<R: Files>(rt: &R, path: &str, bytes: &mut [u8]) -> Input
     ensures { IsPrefixLen result.len bytes.new }
 {
-    let fd = os::open_read(path);
-    if fd < 0 {
-        return Input { ok: false, len: 0 };
-    }
-    let r = read_to_end(fd, bytes);
-    libc::close(fd);
+    let failed = Input { ok: false, len: 0 };
+    let Ok(mut file) = fs::open(rt, path) else {
+        return failed;
+    };
+    let Ok(len) = read_to_end(&mut file, bytes) else {
+        return failed;
+    };
     Input {
-        ok: r.ok && r.len < bytes.len(),
-        len: r.len,
+        ok: len < bytes.len(),
+        len,
     }
 }

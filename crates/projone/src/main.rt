@@ -1,7 +1,8 @@
 // The typed functions of an image's lowest implementation.
 #![tactic(auto)]
+
 use call_answer::Call;
 
-fn main() {
-    programs::call::run(Call::Projection);
+fn main(rt: HostRuntime) -> std::io::Result<()> {
+    programs::call::run(&rt, Call::Projection)
 }

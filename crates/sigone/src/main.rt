@@ -1,7 +1,8 @@
 // The signatures that the trait of an image's lowest implementation asks for.
 #![tactic(auto)]
+
 use call_answer::Call;
 
-fn main() {
-    programs::call::run(Call::Signatures);
+fn main(rt: HostRuntime) -> std::io::Result<()> {
+    programs::call::run(&rt, Call::Signatures)
 }

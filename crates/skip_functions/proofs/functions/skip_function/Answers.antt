@@ -1,0 +1,17 @@
+-- `skip_functions::functions::skip_function` meets its contract. Assumes nothing.
+use borrow.Author.Rules.{rules}
+use native.Mathlib.Omega.{arith}
+use Rattle.image_words.proofs.Sections.{length_section}
+use Rattle.skip_functions.proofs.StatementsLaws.{body_from}
+use Rattle.skip_functions.proofs.FunctionsLaws.{maybe_from}
+use Rattle.skip_functions.proofs.functions.skip_function.Goals as goal
+
+pub returns-then-pool-at : goal.returns-then-pool-at
+returns-then-pool-at c = λ names strings f n h. absurd (omega (arith, h.name_at.inside, c.if-pool-at.true, length_section c.requires))
+
+pub returns : goal.returns
+returns c =
+    λ names strings f n h.
+    let r = c.skip_params-returns.ensures.resolved names 32 f.params h.params_end h.params_at in
+    let b = c.skip_maybe_type-body.ensures names f.return_type h.return_end (maybe_from names _ f.return_type h.return_end r h.return_at) in
+    c.skip_body.ensures names strings f.body n (body_from names strings _ f.body n b h.body_at.parts)

@@ -1,0 +1,16 @@
+-- `skip_functions::statements::skip_statements` meets its contract. The loop's invariant: what is pending ends where the whole does. Assumes nothing.
+use borrow.Author.Rules.{rules}
+use Prim.Native.Nat.{ℕ}
+use mathlib.Core.Path.{sym}
+use native.Mathlib.Omega.{arith}
+use Rattle.image_words.specs.Verdict.{section_words}
+use Rattle.pool_bodies.specs.StatementAt.{StatementAt}
+use Rattle.skip_types.specs.Pending.{Pending}
+use Rattle.skip_types.proofs.Pending.{none_left, ended, turned}
+use Rattle.skip_functions.proofs.statements.skip_statements.Goals as goal
+
+pub loop-pending-preserved : goal.loop-pending-preserved
+loop-pending-preserved c = λ names strings n h. turned (c.loop-pending.invariant names strings n h) c.loop-pending-test.true (λ s m q. none_left (sym (c.skip_statement-next.ensures names strings s m q))) (omega arith)
+
+pub returns : goal.returns
+returns c = λ names strings n h. ended (c.loop-pending.invariant names strings n h) (omega (arith, c.loop-pending-test.false))

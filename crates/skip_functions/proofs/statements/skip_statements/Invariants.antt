@@ -1,0 +1,16 @@
+-- `skip_functions::statements::skip_statements` meets its contract. The loop's invariant: what is pending ends where the whole does. Assumes nothing.
+use borrow.Author.Rules.{rules}
+use Prim.Native.Nat.{ℕ}
+use mathlib.Core.Path.{sym}
+use native.Mathlib.Omega.{arith}
+use Rattle.image_words.specs.Verdict.{section_words}
+use Rattle.pool_bodies.specs.StatementAt.{StatementAt}
+use Rattle.skip_types.specs.Pending.{Pending}
+use Rattle.skip_types.proofs.Pending.{none_left, ended, turned}
+use Rattle.skip_functions.proofs.statements.skip_statements.Given as goal
+
+abbrev pub invariant-loop-pending : goal.invariant-loop-pending
+invariant-loop-pending l = (names strings n : ℕ) → Pending (StatementAt names strings (section_words l.image l.pool)) l.count l.at n → Pending (StatementAt names strings (section_words l.image l.pool)) l.pending l.next n
+
+abbrev pub decreases-loop-pending : goal.decreases-loop-pending
+decreases-loop-pending l = l.pending

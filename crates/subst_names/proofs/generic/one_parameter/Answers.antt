@@ -1,0 +1,17 @@
+-- `subst_names::generic::one_parameter` meets its contract. Assumes nothing.
+use mathlib.Core.Path.{refl, sym, subst, ◌∙◌}
+use borrow.Author.Rules.{rules}
+use Rattle.image_layout.specs.Open.{pool_words}
+use Rattle.subst_names.specs.Aliases.{IsAlias}
+use Rattle.subst_names.proofs.GenericLaws.{not_one, is_one}
+use Rattle.subst_names.proofs.generic.one_parameter.Goals as goal
+
+pub returns-then-section_word-ne1 : goal.returns-then-section_word-ne1
+returns-then-section_word-ne1 c g h =
+    let a = c.args in
+    subst (IsAlias a.l.names.rows (pool_words a.image.now a.l) c.none.result) (sym (not_one a.l.names.rows (pool_words a.image.now a.l) a.start g h (λ e. c.if-section_word-ne1.true (c.section_word.ensures ∙ e)))) c.none.ensures
+
+pub returns : goal.returns
+returns c g h =
+    let a = c.args in
+    is_one a.l.names.rows (pool_words a.image.now a.l) a.start g h (sym c.section_word.ensures ∙ c.if-section_word-ne1.false) _ refl c.section_word-2.ensures refl

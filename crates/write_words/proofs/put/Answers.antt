@@ -1,0 +1,14 @@
+-- `write_words::put` meets its contract: the writer has the bytes below the limit. Assumes nothing.
+use borrow.Author.Rules.{rules}
+use mathlib.Core.Path.{sym}
+use native.Mathlib.Omega.{arith}
+use lib.Seq.{length-take-le}
+use Rattle.write_words.proofs.Prefix.{put_prefix}
+use Rattle.write_words.proofs.Written.{written_one, written_far}
+use Rattle.write_words.proofs.put.Goals as goal
+
+pub returns : goal.returns
+returns c =
+    let a = c.args in
+    let e = c.write.ensures in
+    written_one _ _ _ _ _ _ (e.0, put_prefix a.limit a.to a.w a.out.now c.requires e.1)

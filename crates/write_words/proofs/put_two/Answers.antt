@@ -1,0 +1,14 @@
+-- `write_words::put_two` meets its contract: the writer has the bytes below the limit for both words. Assumes nothing.
+use borrow.Author.Rules.{rules}
+use mathlib.Core.Path.{sym}
+use native.Mathlib.Omega.{arith}
+use lib.Seq.{length-take-le}
+use Rattle.write_words.proofs.Prefix.{put_two_prefix}
+use Rattle.write_words.proofs.Written.{written_two, written_far}
+use Rattle.write_words.proofs.put_two.Goals as goal
+
+pub returns : goal.returns
+returns c =
+    let a = c.args in
+    let e = c.write_two.ensures in
+    written_two _ _ _ _ _ _ _ (e.0, put_two_prefix a.limit a.to a.v a.w a.out.now c.requires e.1)
