@@ -1,16 +1,13 @@
 -- What a node's parts are, by its kind, and what a node that is whole comes to. Assumes nothing.
 use Prim.Native.Nat.{ℕ, ◌+◌, ◌-◌, ◌<◌}
 use native.Mathlib.Omega.{arith}
-use mathlib.Core.Path.{◌≡◌, sym, ap, subst, ◌∙◌}
+use mathlib.Core.Path.{◌≡◌, refl, sym, ap, subst, ◌∙◌}
 use mathlib.Core.Bool.{false}
-use mathlib.Core.List.{List, [], ◌∷◌}
+use mathlib.Core.List.{List}
 use mathlib.Core.Option.{none}
-use denote.Enum.Declared.{tag_of}
-use types.Run.{OneOf, miss}
 use Rattle.rules.specs.Syntax.{CompiledSchema}
 use Rattle.rules.specs.Substitute.{lookup_alias}
 use Rattle.rules.specs.declared.kinds.TypeKind.{TypeKind}
-use Rattle.rules.specs.contracts.kinds.TypeKind as kinds
 use Rattle.laws.specs.Visits.{plain_depth}
 use Rattle.image_layout.specs.declared.Layout.{Layout}
 use Rattle.image_layout.specs.Open.{Open, pool_words}
@@ -27,10 +24,6 @@ use Rattle.subst_parts.specs.Parts.{kind_at, name_at, Told, Read, WholeAs, Parts
 use Rattle.subst_parts.proofs.Nodes.{of_generic}
 use Rattle.subst_parts.proofs.Poison.{is_poison, no_alias}
 
--- the kinds that have no part, by their numbers: all but Generic, One, Fixed and Two
-abbrev pub partless : List ℕ
-partless = 0 ∷ 1 ∷ 2 ∷ 3 ∷ 4 ∷ 9 ∷ []
-
 module _ (image : List ℕ) (l : Layout) (at left : ℕ) where
   pub whole_at : (r : Node) → (r.parts ≡ Parts.Whole) × (r.first ≡ 0) × (r.alias.some ≡ false) → (Read image l at left → WholeAs image l at left (kind_at image l at)) → NodeAt image l at left r
   whole_at r h w = subst (λ (p : Parts). PartsAt image l at left p r.first r.alias) (sym h.0) (h.1, h.2, w)
@@ -38,18 +31,18 @@ module _ (image : List ℕ) (l : Layout) (at left : ℕ) where
   pub whole_as : {k : TypeKind} → kind_at image l at ≡ k → WholeAs image l at left k → Read image l at left → WholeAs image l at left (kind_at image l at)
   whole_as e w _ = subst (WholeAs image l at left) (sym e) w
 
-  -- one arm has them all, and tells the kind's number alone
-  pub other_kind : (k : TypeKind) → OneOf partless (tag_of kinds.the_type k) → WholeAs image l at left k
-  other_kind TypeKind.Plain m = tt
-  other_kind TypeKind.Sub m = tt
-  other_kind TypeKind.Bits m = tt
-  other_kind TypeKind.Named m = tt
-  other_kind TypeKind.Qualified m = tt
-  other_kind TypeKind.Generic m = absurd (miss partless 5 tt m)
-  other_kind TypeKind.One m = absurd (miss partless 6 tt m)
-  other_kind TypeKind.Fixed m = absurd (miss partless 7 tt m)
-  other_kind TypeKind.Two m = absurd (miss partless 8 tt m)
-  other_kind TypeKind.Unknown m = tt
+  -- a kind that has no part
+  pub other_kind : (k : TypeKind) → (k ≡ TypeKind.Generic → ⊥) → (k ≡ TypeKind.One → ⊥) → (k ≡ TypeKind.Fixed → ⊥) → (k ≡ TypeKind.Two → ⊥) → WholeAs image l at left k
+  other_kind TypeKind.Plain g o f t = tt
+  other_kind TypeKind.Sub g o f t = tt
+  other_kind TypeKind.Bits g o f t = tt
+  other_kind TypeKind.Named g o f t = tt
+  other_kind TypeKind.Qualified g o f t = tt
+  other_kind TypeKind.Generic g o f t = absurd (g refl)
+  other_kind TypeKind.One g o f t = absurd (o refl)
+  other_kind TypeKind.Fixed g o f t = absurd (f refl)
+  other_kind TypeKind.Two g o f t = absurd (t refl)
+  other_kind TypeKind.Unknown g o f t = tt
 
   -- what is looked up of a word that is the name
   module _ (r : Alias) (x : ℕ) (is : x ≡ name_at image l at) (h : (s : CompiledSchema) → Open image l s → x < l.names.rows → IsAlias l.names.rows (pool_words image l) r (lookup_alias s x)) where

@@ -1,0 +1,6 @@
+-- `impl_functions::places::after_asked` meets its contract. Assumes nothing.
+use borrow.Author.Rules.{rules}
+use Rattle.impl_functions.proofs.places.after_asked.Goals as goal
+
+pub returns : goal.returns
+returns c = λ f n h. c.skip_trait_function.ensures _ f n h.parts

@@ -1,0 +1,6 @@
+-- `impl_functions::places::after_function` meets its contract. Assumes nothing.
+use borrow.Author.Rules.{rules}
+use Rattle.impl_functions.proofs.places.after_function.Goals as goal
+
+pub returns : goal.returns
+returns c = λ f n h. c.skip_function.ensures _ _ f n h.parts
