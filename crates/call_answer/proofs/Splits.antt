@@ -63,22 +63,20 @@ unfolding ◌>>=◌
 each_o (err e) h = refl
 each_o (ok i) h = h i
 
-module _ (c : Call) (row : ℕ) (s : CompiledSchema) where
-  splits : call_of c row s ≡ of_both s (after_subject c s) (subject row s)
-  unfolding call_of after_subject project_call signatures_call
-  splits = elim c [
-    | Call.Signatures ↦ each_o (find_implementation s row) (signatures_behind s) ∙ chain s (λ i t. in_words (expected_functions s t i)) row
-    | Call.Projection ↦ each_o (find_implementation s row) (behind_trait s) ∙ chain s (projected_words s) row
-  ]
+splits : (c : Call) (row : ℕ) (s : CompiledSchema) → call_of c row s ≡ of_both s (after_subject c s) (subject row s)
+unfolding call_of after_subject project_call signatures_call
+splits Call.Signatures row s = each_o (find_implementation s row) (signatures_behind s) ∙ chain s (λ i t. in_words (expected_functions s t i)) row
+splits Call.Projection row s = each_o (find_implementation s row) (behind_trait s) ∙ chain s (projected_words s) row
 
+module _ (c : Call) (row : ℕ) (s : CompiledSchema) where
   -- 3 and 4 are the call's
   pub none_found : {e : Refusal} → subject row s ≡ err e → call_of c row s ≡ err e
   unfolding ◌>>=◌
-  none_found q = splits ∙ ap (of_both s (after_subject c s)) q
+  none_found q = splits c row s ∙ ap (of_both s (after_subject c s)) q
 
   pub both_found : {i : ImplDef} {t : TraitDef} → subject row s ≡ ok (i, t) → call_of c row s ≡ after_subject c s i t
   unfolding ◌>>=◌
-  both_found q = splits ∙ ap (of_both s (after_subject c s)) q
+  both_found q = splits c row s ∙ ap (of_both s (after_subject c s)) q
 
 -- which call it is
 module _ {c : Call} (s : CompiledSchema) (i : ImplDef) (t : TraitDef) where

@@ -1,5 +1,6 @@
 // The calls: one code for all of them, told which is asked.
 #![tactic(auto)]
+
 ghost use Rattle.std.specs.Prelude.{◌≡◌, ◌≤◌, length};
 ghost use Rattle.rules.specs.Syntax.{CompiledSchema};
 ghost use Rattle.image_layout.specs.Rows.{Cut};

@@ -1,5 +1,6 @@
 // A call's answer, made of what its first pass came to: that pass writes into a buffer of our own, since a refusal leaves the output as found.
 #![tactic(auto)]
+
 ghost use Rattle.std.specs.Prelude.{◌≡◌, true, ◌<◌, ◌≤◌, ◌++◌, length, take, drop};
 ghost use Rattle.call_finish.specs.Ends.{Ends};
 

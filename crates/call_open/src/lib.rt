@@ -1,5 +1,6 @@
 // What both public calls do first.
 #![tactic(auto)]
+
 ghost use Rattle.call_open.specs.Fronts.{Fronts};
 
 use image_layout::Layout;

@@ -1,5 +1,6 @@
 // An implementation's function against the signature that its trait asks for.
 #![tactic(auto)]
+
 mod params;
 mod parts;
 

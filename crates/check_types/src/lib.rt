@@ -1,5 +1,6 @@
 // One parameter and the return of a function against those that its signature asks for, as held types.
 #![tactic(auto)]
+
 pub mod mismatch;
 
 ghost use Rattle.std.proofs.Math.Option.{Option};

@@ -1,5 +1,6 @@
 // A code's kind: number to enum once, so that all code above matches on the enum.
 #![tactic(auto)]
+
 ghost use Rattle.std.specs.Prelude.{◌≡◌};
 ghost use Rattle.rules.specs.Kinds.{type_kind, expr_kind, statement_kind, definition_kind};
 

@@ -1,5 +1,6 @@
 // The signatures that a trait asks of an implementation, in the trait's order.
 #![tactic(auto)]
+
 ghost use Rattle.rules.specs.Signatures.{expected_functions};
 ghost use Rattle.image_layout.specs.Rows.{Cut};
 ghost use Rattle.answers.specs.Answers.{Comes};

@@ -1,5 +1,6 @@
 // The signature that a trait function asks for, held: its parameters in the table of locals, its return beside; and its words written from there.
 #![tactic(auto)]
+
 ghost use Rattle.std.specs.Prelude.{ℕ, ◌≤◌, length};
 ghost use Rattle.std.proofs.Math.Option.{Option, some};
 ghost use Rattle.rules.specs.Syntax.{ResolvedType};

@@ -1,5 +1,6 @@
 // An answer's five words in a lent block.
 #![tactic(auto)]
+
 ghost use Rattle.std.specs.Prelude.{◌≤◌, ◌≡◌, length};
 ghost use Rattle.rules.specs.Words.{over_start};
 ghost use Rattle.export_block.specs.Block.{words_of};

@@ -1,5 +1,6 @@
 // The C forms, for Rust or C to link.
 #![tactic(auto)]
+
 ghost use Rattle.std.specs.Prelude.{◌≡◌};
 ghost use Rattle.rules.specs.Options.{is_some};
 ghost use Rattle.rules.specs.Image.{readable};

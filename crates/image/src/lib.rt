@@ -1,5 +1,6 @@
 // An image's verdict: readable or not, and then its layout.
 #![tactic(auto)]
+
 mod all;
 
 ghost use Rattle.std.specs.Prelude.{◌≡◌};

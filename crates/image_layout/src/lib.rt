@@ -1,5 +1,6 @@
 // Where an image's sections lie, and its rows: all that a layer above knows of the image but the pool's words.
 #![tactic(auto)]
+
 ghost use Rattle.std.specs.Prelude.{◌≡◌};
 ghost use Rattle.image_layout.specs.Rows.{Inside, Fits, row_word, IsNameRow, IsStringRow, IsDefinitionRow};
 

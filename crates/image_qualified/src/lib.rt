@@ -1,5 +1,6 @@
 // The row of a qualified name: its text is the namespace's, a dot, and the name's.
 #![tactic(auto)]
+
 ghost use Rattle.std.specs.Prelude.{◌≡◌, ◌∷◌, ◌++◌, ◌≤◌};
 ghost use Rattle.rules.specs.Words.{same};
 ghost use Rattle.image_texts.specs.Rows.{row_text, find_row, qualified_text};

@@ -1,5 +1,6 @@
 // An image's rows of names, strings and definitions, each as the rules read it: one code for all, told which rows are meant.
 #![tactic(auto)]
+
 mod definitions;
 mod names;
 mod strings;

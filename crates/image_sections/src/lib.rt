@@ -1,5 +1,6 @@
 // The layout that an image's trailer tells.
 #![tactic(auto)]
+
 ghost use Rattle.std.specs.Prelude.{◌≡◌, true, ◌*◌, ◌≤◌};
 ghost use Rattle.rules.specs.Image.{good_trailer};
 ghost use Rattle.image_trailer.specs.Trailers.{meant};

@@ -1,5 +1,6 @@
 // Whether all texts differ.
 #![tactic(auto)]
+
 ghost use Rattle.std.specs.Prelude.{◌≡◌, false, ◌+◌, ◌≤◌, ◌<◌, length};
 ghost use Rattle.rules.specs.Words.{same};
 ghost use Rattle.image_texts.specs.Rows.{row_text, new_row, rows_differ};

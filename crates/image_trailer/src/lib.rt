@@ -1,5 +1,6 @@
 // An image's trailer, read and tested.
 #![tactic(auto)]
+
 ghost use Rattle.std.specs.Prelude.{◌≡◌, ◌*◌, ◌≤◌, length};
 ghost use Rattle.rules.specs.Image.{whole_rows, good_trailer};
 ghost use Rattle.image_trailer.specs.Trailers.{meant, IsTrailer};

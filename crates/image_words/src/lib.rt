@@ -1,5 +1,6 @@
 // Words of a section of the image, each found or refused: what every reading of the image is made of.
 #![tactic(auto)]
+
 ghost use Rattle.std.specs.Prelude.{◌≡◌, ℕ, suc, ◌+◌, ◌-◌, ◌<◌, List, get_or};
 ghost use Rattle.rules.specs.Reader.{word, below};
 ghost use Rattle.image_words.specs.Verdict.{section_words, Lies, Says};

@@ -1,5 +1,6 @@
 // An image's lowest implementation row.
 #![tactic(auto)]
+
 ghost use Rattle.std.specs.Prelude.{◌≡◌};
 ghost use Rattle.rules.specs.Syntax.{CompiledSchema};
 ghost use Rattle.rules.specs.Projone.{lowest_from, lowest_implementation};

@@ -1,5 +1,6 @@
 // Tests of an implementation's functions by their names: 9, then 10.
 #![tactic(auto)]
+
 pub mod repeats;
 pub mod strangers;
 

@@ -1,5 +1,6 @@
 // The message that an implementation is for.
 #![tactic(auto)]
+
 ghost use Rattle.std.specs.Prelude.{◌≡◌};
 ghost use Rattle.image_layout.specs.Rows.{Inside};
 ghost use Rattle.impl_target.specs.Targets.{is_message_kind, FindsTarget};

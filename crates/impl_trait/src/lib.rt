@@ -1,5 +1,6 @@
 // What a call is asked of: an implementation and its trait, where they stand in the pool.
 #![tactic(auto)]
+
 ghost use Rattle.rules.specs.Syntax.{CompiledSchema};
 ghost use Rattle.image_layout.specs.Rows.{Inside};
 ghost use Rattle.image_layout.specs.Open.{Open};

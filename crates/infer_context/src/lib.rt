@@ -1,5 +1,6 @@
 // A function's context, what an expression is by itself there (a local, SelfRef, a field of SelfRef), and where its parts stand.
 #![tactic(auto)]
+
 ghost use Rattle.std.specs.Prelude.{◌≡◌, ◌+◌, ◌<◌, length, get_or};
 ghost use Rattle.rules.specs.Kinds.{expr_kind};
 ghost use Rattle.image_layout.specs.Rows.{Inside};

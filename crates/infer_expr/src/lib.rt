@@ -1,5 +1,6 @@
 // Expressions are typed by recursion while the allowed nesting falls.
 #![tactic(auto)]
+
 ghost use Rattle.image_layout.specs.Rows.{Inside};
 ghost use Rattle.infer_expr.specs.Infers.{Infers};
 

@@ -1,5 +1,6 @@
 // Expressions with no operator: literals, places, calls.
 #![tactic(auto)]
+
 ghost use Rattle.std.specs.Prelude.{◌≡◌, ℕ, ◌+◌, ◌*◌, ◌<◌};
 ghost use Rattle.rules.specs.Syntax.{Expr};
 ghost use Rattle.rules.specs.Fits.{literal_own};

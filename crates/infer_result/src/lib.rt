@@ -1,4 +1,5 @@
 // What comes of typing an expression: its type, or a refusal, built apart from writing it.
 #![tactic(auto)]
+
 pub mod inferred;
 pub mod operators;

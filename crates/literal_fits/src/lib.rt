@@ -1,5 +1,6 @@
 // Which literals a type takes. An i64 enters as its bits.
 #![tactic(auto)]
+
 ghost use Rattle.std.specs.Prelude.{◌≡◌, ℕ, ◌-◌, ◌^◌, ltb, pos};
 ghost use Rattle.std.specs.Int.Signed.{mag};
 ghost use Rattle.rules.specs.Fits.{takes, range_of, int_of, int_fits, uint_fits};

@@ -1,6 +1,7 @@
 // The locals in view: a lent table of 64 rows. A local's type has 64 words; its name stands beside, and in `lens` a note of
 // its type (`type_words::notes`).
 #![tactic(auto)]
+
 ghost use Rattle.std.specs.Prelude.{ℕ, ◌<◌, ◌≤◌, List, length};
 ghost use Rattle.rules.specs.Syntax.{ResolvedType, Param};
 ghost use Rattle.rules.specs.Infer.{find_last};

@@ -1,5 +1,6 @@
 // Expressions in the pool.
 #![tactic(auto)]
+
 ghost use Rattle.rules.specs.Reader.{maybe};
 ghost use Rattle.rules.specs.ReadBodies.{exprs, expr_node, expr_tree, expression};
 ghost use Rattle.rules.specs.declared.kinds.ExprKind.TheVariants.{Call, TraitMethodCall};

@@ -1,5 +1,6 @@
 // Whether a list of types, or of names with their types, stands in the pool, as the rules read it: one code, told which item is listed.
 #![tactic(auto)]
+
 ghost use Rattle.rules.specs.Reader.{many};
 ghost use Rattle.rules.specs.ReadTypes.{param};
 ghost use Rattle.image_words.specs.Verdict.{section_words, Lies, Says};

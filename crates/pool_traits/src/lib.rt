@@ -1,5 +1,6 @@
 // Traits in the pool.
 #![tactic(auto)]
+
 ghost use Rattle.std.specs.Prelude.{◌≡◌};
 ghost use Rattle.rules.specs.Words.{member};
 ghost use Rattle.rules.specs.ReadDefinitions.{trait_return, trait_function, trait};

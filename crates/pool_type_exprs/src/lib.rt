@@ -1,5 +1,6 @@
 // Whether a type expression stands in the pool, as the rules read it.
 #![tactic(auto)]
+
 ghost use Rattle.rules.specs.Reader.{fail};
 ghost use Rattle.rules.specs.ReadTypes.{type_expr_node, type_expr_tree, type_expr};
 ghost use Rattle.rules.specs.declared.kinds.TypeKind.TheVariants.{Qualified};

@@ -1,5 +1,6 @@
 // The public calls: an image, an implementation's number and two lent buffers in, an answer out.
 #![tactic(auto)]
+
 pub mod twice;
 
 ghost use Rattle.std.specs.Prelude.{◌≡◌};

@@ -1,5 +1,6 @@
 // The typed statements of one function.
 #![tactic(auto)]
+
 ghost use Rattle.std.specs.Prelude.{◌≤◌, length};
 ghost use Rattle.image_layout.specs.Rows.{Inside};
 ghost use Rattle.project_function.specs.Clauses.{ProjectsStatements, ProjectsFunction};

@@ -1,5 +1,6 @@
 // The projection of an implementation behind its trait, on a readable image.
 #![tactic(auto)]
+
 ghost use Rattle.image_layout.specs.Rows.{Cut};
 ghost use Rattle.impl_trait.specs.Subjects.{About};
 ghost use Rattle.project_impl.specs.Clauses.{Projects};

@@ -1,5 +1,6 @@
 // Lets: a value under the type written or its own, and a local more.
 #![tactic(auto)]
+
 ghost use Rattle.std.specs.Prelude.{◌≤◌, length};
 ghost use Rattle.image_layout.specs.Rows.{Inside};
 ghost use Rattle.project_let.specs.Clauses.{WritesLet, ProjectsLet};

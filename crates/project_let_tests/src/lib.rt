@@ -1,5 +1,6 @@
 // What a Let is asked: whether its name is free, and then whether its value is accepted.
 #![tactic(auto)]
+
 ghost use Rattle.project_let_tests.specs.LetTests.{TellsLocal, ChecksValue, ChecksLet};
 
 use answers::answer::Outcome;

@@ -1,5 +1,6 @@
 // What comes of a part of a projection: a refusal, or words written.
 #![tactic(auto)]
+
 ghost use Rattle.std.specs.Prelude.{◌≡◌, false};
 ghost use Rattle.answers.specs.Refusals.{refusal_of};
 ghost use Rattle.infer_result.specs.Says as says;

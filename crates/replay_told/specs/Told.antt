@@ -42,7 +42,7 @@ differs_text label c = codes "DIFFERS: " ++ label ++ parts_text c ++ codes ": an
 
 -- the edge cases that are told by name
 unfoldable pub is_named : List ℕ → Bool
-is_named label = same label (codes "visits_1024") || same label (codes "visits_1025") || same label (codes "alias_itself")
+is_named label = same label (codes "visits-1024") || same label (codes "visits-1025") || same label (codes "alias-itself")
 
 -- such a label, and the number answered
 abbrev pub named_text : List ℕ → ℕ → List ℕ

@@ -57,9 +57,9 @@ fn difference(text: &mut [u8], at: usize, label: &[u8], c: Compared) -> usize
 fn named(label: &[u8]) -> bool
     ensures { result ≡ is_named label.now }
 {
-    same_text(label, b"visits_1024")
-        | same_text(label, b"visits_1025")
-        | same_text(label, b"alias_itself")
+    same_text(label, b"visits-1024")
+        | same_text(label, b"visits-1025")
+        | same_text(label, b"alias-itself")
 }
 
 // Such a case's number.

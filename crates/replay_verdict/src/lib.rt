@@ -1,6 +1,7 @@
 // The stored cases replayed: five fields and every byte of both buffers of each answer are compared. What differs, the
 // edge cases that have names of their own, and how much was compared are told in a lent text.
 #![tactic(auto)]
+
 mod asked;
 mod cases;
 mod tally;

@@ -1,5 +1,6 @@
 // The place behind types and type expressions, by counting: on an image that is known to be readable no word is tested again.
 #![tactic(auto)]
+
 ghost use Rattle.std.specs.Prelude.{◌≡◌, ℕ, ◌+◌, ◌<◌, get_or};
 ghost use Rattle.rules.specs.Syntax.{ResolvedType, TypeExpr};
 ghost use Rattle.image_words.specs.Verdict.{section_words, Lies};

@@ -1,5 +1,6 @@
 // What a node of a type expression has to resolve, and nodes that have nothing.
 #![tactic(auto)]
+
 ghost use Rattle.std.specs.Prelude.{◌<◌, ◌≡◌, true, false};
 ghost use Rattle.subst_parts.specs.declared.Parts.{Parts};
 ghost use Rattle.image_layout.specs.Rows.{Cut};

@@ -1,5 +1,6 @@
 // A resolved type copied out of the pool.
 #![tactic(auto)]
+
 ghost use Rattle.std.specs.Prelude.{ℕ};
 ghost use Rattle.rules.specs.Syntax.{ResolvedType, run};
 ghost use Rattle.rules.specs.Good.{Stored};

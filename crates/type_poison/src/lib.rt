@@ -1,5 +1,6 @@
 // Whether poison occurs in a type: what the type tells, and how that is found while its words are copied.
 #![tactic(auto)]
+
 ghost use Rattle.std.specs.Prelude.{◌≤◌, ◌≡◌};
 ghost use Rattle.rules.specs.Types.{contains_poison};
 ghost use Rattle.type_words.specs.Holds.{Each};

@@ -1,5 +1,6 @@
 // Type tests: whether two types are the same, what kind of number one is, what a return means.
 #![tactic(auto)]
+
 ghost use Rattle.std.specs.Prelude.{◌≡◌};
 ghost use Rattle.rules.specs.Types.{is_numeric, is_signed_numeric, is_equality_type, is_float, normalize_return, same_return};
 ghost use Rattle.type_words.specs.Holds.{Each, EachMaybe, MaybeHolds};

@@ -1,6 +1,7 @@
 // A resolved type, held as its words in prefix order with their count, and whether poison occurs in it; the few functions
 // that make one. Nothing is said of the words past the count.
 #![tactic(auto)]
+
 pub mod lent;
 pub mod notes;
 

@@ -1,5 +1,6 @@
 // Whether a text is well-formed UTF-8: one walk over its bytes, which holds what is due of the character begun.
 #![tactic(auto)]
+
 ghost use Rattle.std.specs.Prelude.{◌≡◌, ◌≤◌, length};
 ghost use Rattle.std.proofs.Math.Option.{none, some};
 ghost use Rattle.rules.specs.Utf8.{follow, well_formed};

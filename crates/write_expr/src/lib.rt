@@ -1,5 +1,6 @@
 // Typed values: an accepted expression, written with the type of each part before it.
 #![tactic(auto)]
+
 ghost use Rattle.std.specs.Prelude.{◌≡◌, ◌≤◌, length};
 ghost use Rattle.image_layout.specs.Rows.{Inside};
 ghost use Rattle.write_expr.specs.Writes.{leaf_size, Writes, WritesBinary, WritesUnary};

@@ -1,5 +1,6 @@
 // The type of an accepted expression, before its operands are written: found along its left spine, so that no subtree is typed again.
 #![tactic(auto)]
+
 ghost use Rattle.std.proofs.Math.Option.{Option};
 ghost use Rattle.std.specs.Prelude.{ℕ};
 ghost use Rattle.rules.specs.Syntax.{ResolvedType};

@@ -1,5 +1,6 @@
 // Words written below a limit: one, two, a held type's, some of the pool's. None asks where it starts: past a billion nothing is promised.
 #![tactic(auto)]
+
 ghost use Rattle.std.specs.Prelude.{◌≡◌, List, [], ◌∷◌, ℕ, ◌≤◌, length};
 ghost use Rattle.type_words.specs.Runs.{Runs};
 ghost use Rattle.image_layout.specs.Rows.{Inside};

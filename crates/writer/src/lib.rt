@@ -1,6 +1,7 @@
 // The writer of the lent output: it holds the output and the place of the next word. A word that does not fit is not
 // written, and the place moves on all the same: over an empty slice a writer only counts.
 #![tactic(auto)]
+
 ghost use Rattle.std.specs.Prelude.{◌≡◌, ◌≤◌, ◌+◌, length};
 ghost use Rattle.words.specs.Puts.{put};
 ghost use Rattle.writer.specs.Moved.{moved_on};

@@ -1,9 +1,7 @@
 -- `call_open::look` meets its contract. Assumes nothing.
-use borrow.Author.Rules.{rules}
-use mathlib.Core.Path.{refl, ap}
+use mathlib.Core.Path.{refl}
 use native.Mathlib.Omega.{arith}
 use borrow.Author.Tests.{not-true, not-false}
-use Rattle.image_layout.specs.declared.Opened.{Opened}
 use Rattle.image.proofs.Verdicts.{not_some, not_none}
 use Rattle.call_open.proofs.look.Goals as goal
 

@@ -1,5 +1,4 @@
 -- `check_signature::body_start` meets its contract. Assumes nothing.
-use borrow.Author.Rules.{rules}
 use Rattle.check_signature.proofs.Ends.{return_from}
 use Rattle.check_signature.proofs.body_start.Goals as goal
 

@@ -1,5 +1,4 @@
 -- `check_types::check_name` meets its contract. Assumes nothing.
-use borrow.Author.Rules.{rules}
 use borrow.Author.Tests.{eq-eqb, ne_eqb}
 use mathlib.Core.Path.{ap, ◌∙◌}
 use Rattle.answers.specs.Refusals.{refusal_of}

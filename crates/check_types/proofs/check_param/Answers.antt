@@ -1,5 +1,4 @@
 -- `check_types::check_param` meets its contract. Assumes nothing.
-use borrow.Author.Rules.{rules}
 use Rattle.check_types.proofs.Checks.{name_then_type}
 use Rattle.check_types.proofs.check_param.Goals as goal
 

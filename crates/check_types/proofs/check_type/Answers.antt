@@ -1,5 +1,4 @@
 -- `check_types::check_type` meets its contract. Assumes nothing.
-use borrow.Author.Rules.{rules}
 use borrow.Author.Tests.{not-true, not-false}
 use mathlib.Core.Path.{sym, ap, ◌∙◌}
 use Rattle.answers.specs.Refusals.{refusal_of}

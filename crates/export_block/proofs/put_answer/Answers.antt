@@ -1,7 +1,5 @@
-use borrow.Author.Rules.{rules}
 use mathlib.Core.Path.{refl}
 use native.Mathlib.Omega.{arith}
-use lib.ListN.{length-set}
 use Rattle.export_block.specs.Block.{words_of}
 use Rattle.export_block.proofs.Blocks.{stored}
 use Rattle.export_block.proofs.put_answer.Goals as goal

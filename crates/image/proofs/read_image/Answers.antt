@@ -4,7 +4,6 @@ use Rattle.image_layout.specs.declared.Layout.{Layout}
 use Rattle.image_layout.specs.declared.Opened.{Opened}
 use borrow.Author.Tests.{not-true, not-false}
 use Rattle.image.proofs.Reading.{refused, settled}
-use borrow.Author.Rules.{rules}
 use Rattle.image.proofs.read_image.Goals as goal
 
 abbrev layout_of : Opened → Layout

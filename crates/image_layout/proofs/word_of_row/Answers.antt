@@ -1,10 +1,8 @@
 -- `image_layout::word_of_row` meets its contract: a word of a row lies before the rows' end. Assumes nothing.
-use borrow.Author.Rules.{rules}
 use native.Mathlib.Omega.{arith}
 use borrow.Author.Tests.{le-ltb, lt-ltb}
 use Prim.Native.Nat.{◌<◌}
 use Rattle.image_layout.specs.Rows.{row_word}
-use Rattle.image_layout.proofs.Words.{row_inside}
 use Rattle.image_layout.proofs.word_of_row.Goals as goal
 
 pub returns-then-t-i : goal.returns-then-t-i

@@ -1,13 +1,11 @@
 -- What is found row by row is the row of the qualified text.
 use mathlib.Core.Path.{◌≡◌, sym, ap₂, ◌∙◌}
-use mathlib.Core.Bool.{Bool}
-use mathlib.Core.List.{List, ◌∷◌, ◌++◌}
-use Prim.Native.Nat.{ℕ, ◌-◌, ◌≤◌}
+use mathlib.Core.List.{List}
+use Prim.Native.Nat.{ℕ, ◌-◌}
 use native.Mathlib.Omega.{arith}
 use borrow.Author.Rules.{rules}
-use Rattle.rules.specs.Words.{same}
 use Rattle.image_texts.specs.Rows.{row_text, qualified_text, first_from, find_row}
-use Rattle.image_texts.proofs.Find.{first_start, first_hit, first_miss, first_none}
+use Rattle.image_texts.proofs.Find.{first_hit, first_miss, first_none}
 use Rattle.image_qualified.proofs.find_qualified.Goals as goal
 use Rattle.image_qualified.proofs.find_qualified.Invariants.{has}
 

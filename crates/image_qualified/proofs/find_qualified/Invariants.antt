@@ -1,13 +1,10 @@
 -- whether row i has the text of the two halves
-use mathlib.Core.Path.{◌≡◌, sym, ap₂, ◌∙◌}
+use mathlib.Core.Path.{◌≡◌}
 use mathlib.Core.Bool.{Bool}
 use mathlib.Core.List.{List, ◌∷◌, ◌++◌}
 use Prim.Native.Nat.{ℕ, ◌-◌, ◌≤◌}
-use native.Mathlib.Omega.{arith}
-use borrow.Author.Rules.{rules}
 use Rattle.rules.specs.Words.{same}
-use Rattle.image_texts.specs.Rows.{row_text, qualified_text, first_from, find_row}
-use Rattle.image_texts.proofs.Find.{first_start, first_hit, first_miss, first_none}
+use Rattle.image_texts.specs.Rows.{row_text, first_from}
 use Rattle.image_qualified.proofs.find_qualified.Given as goal
 
 abbrev pub has : List ℕ → ℕ → List ℕ → List ℕ → ℕ → Bool

@@ -1,7 +1,5 @@
 use mathlib.Core.Path.{sym, ◌∙◌}
 use native.Mathlib.Omega.{arith}
-use lib.Seq.{length-take-le}
-use borrow.Author.Rules.{rules}
 use borrow.Author.Tests.{not-true, not-false}
 use Rattle.image_qualified.proofs.Joined.{joined_long, joined_dotless, joined_other, joined_first}
 use Rattle.image_qualified.proofs.is_joined.Goals as goal

@@ -1,10 +1,8 @@
--- a text is no longer than its row says
 use mathlib.Core.Path.{sym, ap, ap₂, ◌∙◌}
 use mathlib.Core.List.{List, ◌∷◌, ◌++◌}
 use Prim.Native.Nat.{ℕ, ◌+◌, ◌*◌, ◌≤◌}
 use native.Mathlib.Omega.{arith}
 use lib.ListN.{length, take, drop, length-take}
-use borrow.Author.Rules.{rules}
 use Rattle.rules.specs.Words.{same}
 use Rattle.words.specs.Words.{word_at}
 use Rattle.image_texts.specs.Rows.{row_text}

@@ -1,5 +1,4 @@
 -- `image_rows::check_row` meets its contract. Assumes nothing.
-use borrow.Author.Rules.{rules}
 use Rattle.image_rows.proofs.check_row.Goals as goal
 
 pub returns-in-Names : goal.returns-in-Names

@@ -1,11 +1,8 @@
 -- `image_rows::check_rows` meets its contract. Assumes nothing.
-use borrow.Author.Rules.{rules}
 use borrow.Author.Tests.{not-true, not-false}
 use native.Mathlib.Omega.{arith}
 use Prim.Native.Nat.{◌-◌}
-use Rattle.image_words.specs.Verdict.{section_words}
-use Rattle.image_rows.specs.Verdict.{table_of, reader_of}
-use Rattle.image_rows.proofs.RowSteps.{RowsLeft, rows_start, rows_next, rows_stop, rows_done}
+use Rattle.image_rows.proofs.RowSteps.{rows_next, rows_stop, rows_done}
 use Rattle.image_rows.proofs.check_rows.Goals as goal
 
 pub returns-then-not-check_row : goal.returns-then-not-check_row

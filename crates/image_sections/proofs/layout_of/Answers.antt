@@ -1,8 +1,6 @@
 -- `image_sections::layout_of` meets its contract. Assumes nothing.
 use native.Mathlib.Omega.{arith}
-use Rattle.image_sections.proofs.Trailers.{parts, fewer, joined}
-use borrow.Author.Rules.{rules}
-use Rattle.image_trailer.specs.Trailers.{meant}
+use Rattle.image_sections.proofs.Trailers.{parts, fewer}
 use Rattle.image_sections.proofs.layout_of.Goals as goal
 
 pub table-names-requires : goal.table-names-requires

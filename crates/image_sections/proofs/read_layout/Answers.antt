@@ -1,9 +1,7 @@
 -- `image_sections::read_layout` meets its contract. Assumes nothing.
 use mathlib.Core.Path.{sym, ◌∙◌}
 use borrow.Author.Tests.{not-true, not-false}
-use Rattle.image_sections.proofs.Trailers.{bounds}
 use Rattle.image_sections.proofs.Schemas.{unsized_read, bad_read, good_read}
-use borrow.Author.Rules.{rules}
 use Rattle.image_sections.proofs.read_layout.Goals as goal
 
 pub returns-then-not-size : goal.returns-then-not-size

@@ -1,12 +1,8 @@
-use mathlib.Core.Path.{◌≡◌, sym, ◌∙◌}
+use mathlib.Core.Path.{◌≡◌}
 use mathlib.Core.Bool.{true}
 use Prim.Native.Nat.{◌-◌, ◌≤◌}
-use native.Mathlib.Omega.{arith}
-use borrow.Author.Rules.{rules}
-use borrow.Author.Tests.{not-true, not-false}
 use Rattle.image_texts.specs.All.{all_below}
-use Rattle.image_texts.proofs.All.{all_none, all_done, all_false, all_more}
-use Rattle.image_texts.specs.Rows.{new_row, rows_differ}
+use Rattle.image_texts.specs.Rows.{new_row}
 use Rattle.image_texts_differ.proofs.all_new.Given as goal
 
 abbrev pub invariant-loop-i : goal.invariant-loop-i

@@ -1,10 +1,7 @@
 use Prim.Native.Nat.{◌-◌, ◌≤◌}
 use mathlib.Core.Path.{◌≡◌}
 use mathlib.Core.Bool.{false}
-use native.Mathlib.Omega.{arith}
-use borrow.Author.Rules.{rules}
 use Rattle.image_texts_differ.specs.Hash.{Apart}
-use Rattle.image_texts_differ.proofs.HashLaws.{apart_more}
 use Rattle.image_texts_differ.proofs.among.Given as goal
 
 abbrev pub invariant-loop-j : goal.invariant-loop-j

@@ -1,8 +1,5 @@
--- different numbers: different texts
-use mathlib.Core.Path.{sym, ap₂, ◌∙◌}
+use mathlib.Core.Path.{sym, ◌∙◌}
 use native.Mathlib.Omega.{arith}
-use borrow.Author.Rules.{rules}
-use Rattle.rules.specs.Words.{same}
 use Rattle.image_texts_differ.proofs.HashLaws.{hash_differ}
 use Rattle.image_texts_differ.proofs.clash.Goals as goal
 

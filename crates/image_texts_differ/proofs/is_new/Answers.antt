@@ -1,8 +1,6 @@
--- different numbers: different texts
 use mathlib.Core.Path.{sym, ap, ◌∙◌}
 use mathlib.Core.Bool.{not}
 use native.Mathlib.Omega.{arith}
-use borrow.Author.Rules.{rules}
 use borrow.Author.Tests.{not-true}
 use Rattle.image_texts.proofs.All.{all_true}
 use Rattle.image_texts.specs.Rows.{new_row}

@@ -1,13 +1,10 @@
-use mathlib.Core.Path.{◌≡◌, sym}
+use mathlib.Core.Path.{◌≡◌}
 use mathlib.Core.Bool.{Bool, true, not}
 use mathlib.Core.List.{List}
 use Prim.Native.Nat.{ℕ, ◌-◌, ◌≤◌}
-use native.Mathlib.Omega.{arith}
-use borrow.Author.Rules.{rules}
 use Rattle.rules.specs.Words.{same}
 use Rattle.image_texts.specs.All.{all_below}
-use Rattle.image_texts.proofs.All.{all_none, all_done, all_false, all_more}
-use Rattle.image_texts.specs.Rows.{row_text, new_row}
+use Rattle.image_texts.specs.Rows.{row_text}
 use Rattle.image_texts_differ.proofs.no_clash.Given as goal
 
 abbrev pub apart : List ℕ → ℕ → ℕ → ℕ → Bool

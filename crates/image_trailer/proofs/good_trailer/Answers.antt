@@ -1,5 +1,4 @@
 -- `image_trailer::good_trailer` meets its contract. Assumes nothing.
-use borrow.Author.Rules.{rules}
 use Rattle.rules.specs.Image.{good_trailer}
 use Rattle.image_trailer.proofs.good_trailer.Goals as goal
 

@@ -1,5 +1,4 @@
 -- `image_trailer::whole_rows` meets its contract. Assumes nothing.
-use borrow.Author.Rules.{rules}
 use Rattle.rules.specs.Image.{whole_rows}
 use Rattle.image_trailer.proofs.whole_rows.Goals as goal
 

@@ -1,7 +1,6 @@
 -- `image_words::check_below` meets its contract: the answers follow the reader's steps.
 use borrow.Author.Tests.{not-true, not-false}
 use Rattle.image_words.proofs.Says.{below_in, below_over, below_past}
-use borrow.Author.Rules.{rules}
 use Rattle.image_words.proofs.check_below.Goals as goal
 
 pub returns-then-not-a : goal.returns-then-not-a

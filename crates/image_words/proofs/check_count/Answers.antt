@@ -2,7 +2,6 @@
 use native.Mathlib.Omega.{arith}
 use borrow.Author.Tests.{not-true, not-false}
 use Rattle.image_words.proofs.Says.{below_in, below_over, below_past}
-use borrow.Author.Rules.{rules}
 use Rattle.image_words.proofs.check_count.Goals as goal
 
 pub returns-then-not-a : goal.returns-then-not-a

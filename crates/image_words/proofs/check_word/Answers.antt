@@ -1,6 +1,5 @@
 -- `image_words::check_word` meets its contract: the answers follow the reader's steps.
 use Rattle.image_words.proofs.Says.{word_in, word_out}
-use borrow.Author.Rules.{rules}
 use Rattle.image_words.proofs.check_word.Goals as goal
 
 pub returns-then-s-at : goal.returns-then-s-at

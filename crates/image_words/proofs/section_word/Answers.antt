@@ -1,7 +1,6 @@
 -- `image_words::section_word` meets its contract: the word of the section is the word at its byte of the image.
 use mathlib.Core.Path.{◌∙◌}
 use Rattle.image_words.proofs.Sections.{section_at, section_past}
-use borrow.Author.Rules.{rules}
 use Rattle.image_words.proofs.section_word.Goals as goal
 
 pub returns-then-s-at : goal.returns-then-s-at

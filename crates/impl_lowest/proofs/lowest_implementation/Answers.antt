@@ -1,6 +1,5 @@
 use mathlib.Core.Path.{sym, ◌∙◌}
 use borrow.Author.Tests.{not-true, not-false}
-use borrow.Author.Rules.{rules}
 use Rattle.image.proofs.Reading.{schema_of}
 use Rattle.image.proofs.Verdicts.{not_readable}
 use Rattle.impl_lowest.proofs.Rows.{unreadable, when_readable}

@@ -1,13 +1,9 @@
--- the rows behind decide
-use Prim.Native.Nat.{◌-◌, ◌<◌, ◌≤◌}
+use Prim.Native.Nat.{◌-◌, ◌<◌}
 use native.Mathlib.Omega.{arith}
-use mathlib.Core.Path.{◌≡◌, refl, sym, ◌∙◌}
+use mathlib.Core.Path.{refl, sym, ◌∙◌}
 use native.Mathlib.Numerals.{add-one}
-use lib.ListN.{length, drop}
+use lib.ListN.{length}
 use borrow.Author.Rules.{rules}
-use Rattle.rules.specs.Syntax.{CompiledSchema}
-use Rattle.rules.specs.Projone.{lowest_from}
-use Rattle.image_layout.specs.Open.{Open}
 use Rattle.impl_lowest.proofs.Rows.{finds, here, passed, ended}
 use Rattle.impl_lowest.proofs.lowest_row.Goals as goal
 
@@ -23,11 +19,11 @@ returns-then-found c =
 pub loop-row-preserved : goal.loop-row-preserved
 loop-row-preserved c =
     let row = c.loop-row.row in (
-  search rules,
-  λ s o. let k : row < length s.definitions = omega (arith, o.definitions, c.loop-row-test.true) in
-      let p = passed s.definitions row row k (sym (finds (c.find_implementation-found.ensures s o)) ∙ c.if-found.false) in
-      rw add-one (sym p ∙ c.loop-row.invariant.1 s o),
-)
+      search rules,
+      λ s o. let k : row < length s.definitions = omega (arith, o.definitions, c.loop-row-test.true) in
+          let p = passed s.definitions row row k (sym (finds (c.find_implementation-found.ensures s o)) ∙ c.if-found.false) in
+          rw add-one (sym p ∙ c.loop-row.invariant.1 s o),
+    )
 
 pub returns : goal.returns
 returns c =

@@ -1,14 +1,9 @@
--- the rows behind decide
-use Prim.Native.Nat.{◌-◌, ◌<◌, ◌≤◌}
-use native.Mathlib.Omega.{arith}
-use mathlib.Core.Path.{◌≡◌, refl, sym, ◌∙◌}
-use native.Mathlib.Numerals.{add-one}
-use lib.ListN.{length, drop}
-use borrow.Author.Rules.{rules}
+use Prim.Native.Nat.{◌-◌, ◌≤◌}
+use mathlib.Core.Path.{◌≡◌}
+use lib.ListN.{drop}
 use Rattle.rules.specs.Syntax.{CompiledSchema}
 use Rattle.rules.specs.Projone.{lowest_from}
 use Rattle.image_layout.specs.Open.{Open}
-use Rattle.impl_lowest.proofs.Rows.{finds, here, passed, ended}
 use Rattle.impl_lowest.proofs.lowest_row.Given as goal
 
 abbrev pub invariant-loop-row : goal.invariant-loop-row

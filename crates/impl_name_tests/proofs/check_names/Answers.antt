@@ -1,5 +1,4 @@
 -- `impl_name_tests::check_names` meets its contract. Assumes nothing.
-use borrow.Author.Rules.{rules}
 use Rattle.project_outcome.proofs.Passing.{in_order}
 use Rattle.impl_name_tests.proofs.check_names.Goals as goal
 

@@ -3,7 +3,6 @@ use mathlib.Core.Path.{sym, ap, ◌∙◌}
 use Prim.Native.Nat.{ℕ}
 use native.Mathlib.Omega.{arith}
 use lib.ListN.{get_or}
-use borrow.Author.Rules.{rules}
 use Rattle.image_layout.specs.Open.{pool_words}
 use Rattle.image_words.proofs.Sections.{length_section}
 use Rattle.pool_types.proofs.TypeAt.{shape_at}

@@ -1,5 +1,4 @@
 -- `infer_context::binary_hint` meets its contract. Assumes nothing.
-use borrow.Author.Rules.{rules}
 use Rattle.rules.specs.Infer.{expression_hint, binary_hint}
 use Rattle.infer_context.proofs.Hints.{or_held, or_next, held_if, held_not}
 use Rattle.infer_context.proofs.binary_hint.Goals as goal

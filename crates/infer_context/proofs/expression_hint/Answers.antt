@@ -1,5 +1,4 @@
 -- `infer_context::expression_hint` meets its contract. Assumes nothing.
-use borrow.Author.Rules.{rules}
 use mathlib.Core.Path.{sym, ap, ◌∙◌}
 use Rattle.infer_context.specs.PlaceKinds.{place_kind}
 use Rattle.infer_context.proofs.Hints.{at_local, at_own, at_field, at_nowhere}

@@ -1,5 +1,4 @@
 -- `infer_context::field_hint` meets its contract. Assumes nothing.
-use borrow.Author.Rules.{rules}
 use native.Mathlib.Omega.{arith}
 use mathlib.Core.Path.{sym, ap, ◌∙◌}
 use Rattle.rules.proofs.Clash.{clash}

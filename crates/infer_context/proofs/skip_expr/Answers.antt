@@ -1,5 +1,4 @@
 -- `infer_context::skip_expr` meets its contract: an expression whose words stand there has its parts there. Assumes nothing.
-use borrow.Author.Rules.{rules}
 use Rattle.laws.proofs.Expressions.{tree_exact}
 use Rattle.image_words.proofs.Gives.{of}
 use Rattle.pool_expressions.proofs.ExprAt.{expr_tree_gives}

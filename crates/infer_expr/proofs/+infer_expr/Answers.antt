@@ -5,7 +5,6 @@ use mathlib.Core.Path.{◌≡◌, refl, sym, subst, ◌∙◌}
 use lib.ListN.{length}
 use Rattle.rules.specs.Syntax.{Expr}
 use Rattle.rules.specs.Infer.{infer_expr}
-use Rattle.rules.specs.declared.kinds.ExprKind.{ExprKind}
 use Rattle.image_layout.specs.Open.{pool_words}
 use Rattle.image_words.proofs.Sections.{length_section}
 use Rattle.infer_result.specs.Says.{Says}

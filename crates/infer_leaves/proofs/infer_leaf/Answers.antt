@@ -1,5 +1,4 @@
 -- `infer_leaves::infer_leaf` meets its contract: each arm by the code that stands there. Assumes nothing.
-use borrow.Author.Rules.{rules}
 use mathlib.Core.Path.{sym, ◌∙◌}
 use lib.Dec.{lit<}
 use Rattle.rules.specs.Types.{BOOL, STRING}

@@ -1,5 +1,4 @@
 -- `infer_leaves::infer_place` meets its contract. Assumes nothing.
-use borrow.Author.Rules.{rules}
 use Prim.Native.Nat.{ℕ}
 use mathlib.Core.Path.{subst}
 use Rattle.rules.specs.Refusal.{err, with_name}

@@ -1,5 +1,4 @@
 -- `infer_leaves::literal_own` meets its contract. Assumes nothing.
-use borrow.Author.Rules.{rules}
 use lib.Dec.{lit<}
 use Rattle.infer_leaves.proofs.Literals.{own_held, own_int, own_uint, own_float}
 use Rattle.infer_leaves.proofs.literal_own.Goals as goal

@@ -1,7 +1,6 @@
 -- `literal_fits::below_power` meets its contract. Assumes nothing.
 use native.Mathlib.Omega.{arith}
 use mathlib.Core.Path.{sym}
-use borrow.Author.Rules.{rules}
 use Rattle.literal_fits.proofs.Widths.{shift_zero, all_below}
 use Rattle.literal_fits.proofs.below_power.Goals as goal
 

@@ -1,6 +1,5 @@
 -- `literal_fits::int_fits` meets its contract. Assumes nothing.
 use mathlib.Core.Path.{ap, ◌∙◌}
-use borrow.Author.Rules.{rules}
 use Rattle.rules.specs.Fits.{Range, takes, int_of, int_fits}
 use Rattle.literal_fits.proofs.int_fits.Goals as goal
 

@@ -1,6 +1,5 @@
 -- `literal_fits::int_in` meets its contract. Assumes nothing.
 use native.Mathlib.Omega.{arith}
-use borrow.Author.Rules.{rules}
 use Rattle.literal_fits.proofs.Widths.{signed_fit, unsigned_positive, unsigned_negative, any_fit, nothing_fit}
 use Rattle.literal_fits.proofs.int_in.Goals as goal
 

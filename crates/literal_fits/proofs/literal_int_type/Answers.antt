@@ -1,7 +1,6 @@
 -- `literal_fits::literal_int_type` meets its contract. Assumes nothing.
 use mathlib.Core.Path.{refl}
 use lib.Dec.{lit<}
-use borrow.Author.Rules.{rules}
 use Rattle.rules.specs.Fits.{literal_fits, literal_own}
 use Rattle.literal_fits.proofs.Given.{given, own}
 use Rattle.literal_fits.proofs.literal_int_type.Goals as goal

@@ -1,6 +1,5 @@
 -- `literal_fits::magnitude` meets its contract. Assumes nothing.
 use native.Mathlib.Omega.{arith}
-use borrow.Author.Rules.{rules}
 use Rattle.literal_fits.proofs.Widths.{positive, negative}
 use Rattle.literal_fits.proofs.magnitude.Goals as goal
 

@@ -1,7 +1,6 @@
 -- `literal_fits::range_of` meets its contract. Assumes nothing.
 use native.Mathlib.Omega.{arith}
 use mathlib.Core.Path.{ap, ◌∙◌}
-use borrow.Author.Rules.{rules}
 use Rattle.rules.specs.Fits.{Signed, Unsigned}
 use Rattle.literal_fits.proofs.ByRange.{range_held, range_at, range_signed, range_unsigned, range_off, past}
 use Rattle.literal_fits.proofs.range_of.Goals as goal

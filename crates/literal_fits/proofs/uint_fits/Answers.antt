@@ -1,6 +1,5 @@
 -- `literal_fits::uint_fits` meets its contract. Assumes nothing.
 use mathlib.Core.Path.{ap, ◌∙◌}
-use borrow.Author.Rules.{rules}
 use Rattle.rules.specs.Fits.{Range, takes, uint_fits}
 use lib.IntN.{pos}
 use Rattle.literal_fits.proofs.uint_fits.Goals as goal

@@ -1,6 +1,5 @@
 -- `literal_fits::uint_in` meets its contract. Assumes nothing.
 use mathlib.Core.Path.{refl}
-use borrow.Author.Rules.{rules}
 use Rattle.literal_fits.proofs.Widths.{signed_fit, unsigned_fit, any_fit, nothing_fit}
 use Rattle.literal_fits.proofs.uint_in.Goals as goal
 

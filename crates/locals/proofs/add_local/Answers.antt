@@ -1,5 +1,4 @@
 -- `locals::add_local` meets its contract. Assumes nothing.
-use borrow.Author.Rules.{rules}
 use native.Mathlib.Omega.{arith}
 use Rattle.locals.proofs.Adds.{added}
 use Rattle.locals.proofs.add_local.Goals as goal

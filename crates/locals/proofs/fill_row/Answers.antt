@@ -1,10 +1,7 @@
 -- `locals::fill_row` meets its contract. The loop's invariant: k words stand in the row. Assumes nothing.
-use borrow.Author.Rules.{rules}
-use Prim.Native.Nat.{◌-◌, ◌<◌, ◌≤◌}
-use mathlib.Core.Path.{◌≡◌, refl}
+use Prim.Native.Nat.{◌-◌}
 use native.Mathlib.Omega.{arith}
-use lib.ListN.{length}
-use Rattle.locals.proofs.Adds.{Filling, filling_more, filled}
+use Rattle.locals.proofs.Adds.{filled}
 use Rattle.locals.proofs.fill_row.Goals as goal
 
 pub returns : goal.returns

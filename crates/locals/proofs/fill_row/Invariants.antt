@@ -1,10 +1,8 @@
 -- `locals::fill_row` meets its contract. The loop's invariant: k words stand in the row. Assumes nothing.
-use borrow.Author.Rules.{rules}
 use Prim.Native.Nat.{◌-◌, ◌<◌, ◌≤◌}
-use mathlib.Core.Path.{◌≡◌, refl}
-use native.Mathlib.Omega.{arith}
+use mathlib.Core.Path.{◌≡◌}
 use lib.ListN.{length}
-use Rattle.locals.proofs.Adds.{Filling, filling_more, filled}
+use Rattle.locals.proofs.Adds.{Filling}
 use Rattle.locals.proofs.fill_row.Given as goal
 
 abbrev pub invariant-loop-k : goal.invariant-loop-k

@@ -1,6 +1,5 @@
 -- `locals::find_last` meets its contract. Assumes nothing.
-use borrow.Author.Rules.{rules}
-use Rattle.locals.proofs.Finds.{held_last, held_none}
+use Rattle.locals.proofs.Finds.{held_last}
 use Rattle.locals.proofs.find_last.Goals as goal
 
 pub returns-then-i-count : goal.returns-then-i-count

@@ -1,9 +1,7 @@
 -- `locals::find_local` meets its contract. The loop's invariant: no row from i on has the name. Assumes nothing.
-use borrow.Author.Rules.{rules}
 use Prim.Native.Nat.{◌≤◌}
-use native.Mathlib.Omega.{arith}
 use lib.ListN.{length}
-use Rattle.locals.proofs.Finds.{Apart, apart_more, search_found, search_none, short}
+use Rattle.locals.proofs.Finds.{Apart}
 use Rattle.locals.proofs.find_local.Given as goal
 
 abbrev pub invariant-loop-i : goal.invariant-loop-i

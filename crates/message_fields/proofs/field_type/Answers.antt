@@ -1,5 +1,4 @@
 -- `message_fields::field_type` meets its contract. Assumes nothing.
-use borrow.Author.Rules.{rules}
 use Rattle.rules.specs.Infer.{find_last}
 use Rattle.image_layout.specs.Open.{pool_words}
 use Rattle.message_fields.proofs.Finds.{held_place, held_nowhere}

@@ -1,13 +1,10 @@
 -- `message_fields::find_field` meets its contract. The loop's invariant: the fields that are left, and the last so far. Assumes nothing.
-use borrow.Author.Rules.{rules}
 use Prim.Native.Nat.{ℕ, ◌-◌}
-use native.Mathlib.Omega.{arith}
 use mathlib.Core.List.{List}
 use Rattle.rules.specs.Syntax.{ResolvedType, Param}
 use Rattle.image_words.specs.Verdict.{section_words}
-use Rattle.image_words.proofs.Sections.{length_section}
 use Rattle.message_fields.specs.Fields.{Fields}
-use Rattle.message_fields.proofs.Finds.{Left, started, turned, done}
+use Rattle.message_fields.proofs.Finds.{Left}
 use Rattle.message_fields.proofs.find_field.Given as goal
 
 abbrev pub invariant-loop-i : goal.invariant-loop-i

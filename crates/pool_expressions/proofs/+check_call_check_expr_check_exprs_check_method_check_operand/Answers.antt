@@ -1,14 +1,10 @@
 -- Each arm is a step of the reader behind its code.
-use mathlib.Core.Path.{◌≡◌, sym, ◌∙◌}
-use Rattle.rules.specs.declared.kinds.ExprKind.{ExprKind}
-use Rattle.image_words.specs.declared.Checked.{Checked}
+use mathlib.Core.Path.{sym}
 use borrow.Author.Tests.{not-true, not-false}
-use Rattle.rules.specs.ReadBodies.{expr_node, exprs, expr_tree}
+use Rattle.rules.specs.ReadBodies.{expr_node}
 use Rattle.image_words.proofs.Says.{then, stop, last, after_stop, after_goes, after, after_two, given, failed, below_then}
 use Rattle.image_words.proofs.Trees.{expr_is, tree_deep, tree_stop, tree_then}
-use Prim.Native.Nat.{◌-◌, ◌*◌, ◌+◌, ℕ, ◌<◌}
-use Rattle.image_words.specs.Verdict.{section_words, Says}
-use Rattle.image_words.proofs.Verdict.{Left}
+use Prim.Native.Nat.{◌-◌}
 use Rattle.image_words.proofs.Loops.{repeat_all, turn, turn_stop, turn_done}
 use Rattle.pool_expressions.proofs.+check_call_check_expr_check_exprs_check_method_check_operand.Goals as goal
 

@@ -1,6 +1,5 @@
 -- `pool_expressions::check_expression` meets its contract: the answers follow the reader's steps.
 use Rattle.rules.specs.ReadBodies.{expression}
-use borrow.Author.Rules.{rules}
 use Rattle.pool_expressions.proofs.check_expression.Goals as goal
 
 pub returns : goal.returns

@@ -1,7 +1,6 @@
 -- `pool_expressions::check_maybe_expression` meets its contract: the answers follow the reader's steps.
 use borrow.Author.Tests.{not-true, not-false}
 use Rattle.image_words.proofs.Says.{maybe_stop, maybe_none, maybe_some}
-use borrow.Author.Rules.{rules}
 use Rattle.pool_expressions.proofs.check_maybe_expression.Goals as goal
 
 pub returns-then-not-f : goal.returns-then-not-f

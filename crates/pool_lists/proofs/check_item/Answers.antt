@@ -1,5 +1,4 @@
 -- `pool_lists::check_item` meets its contract: each arm says what its item's reader says. Assumes nothing.
-use borrow.Author.Rules.{rules}
 use Rattle.pool_lists.proofs.check_item.Goals as goal
 
 pub returns-in-Type : goal.returns-in-Type

@@ -1,12 +1,7 @@
 -- `pool_lists::check_items` meets its contract: each turn leaves one reading less. Assumes nothing.
-use borrow.Author.Rules.{rules}
 use Prim.Native.Nat.{◌-◌}
 use borrow.Author.Tests.{not-true, not-false}
-use Rattle.rules.specs.Reader.{many, times}
-use Rattle.image_words.specs.Verdict.{section_words}
-use Rattle.image_words.proofs.Verdict.{Left}
 use Rattle.image_words.proofs.Loops.{many_then, many_stop, turn, turn_stop, turn_done}
-use Rattle.pool_lists.specs.Items.{item_reader}
 use Rattle.pool_lists.proofs.check_items.Goals as goal
 
 pub returns-then-not-n : goal.returns-then-not-n

@@ -1,5 +1,4 @@
 -- `pool_lists::check_named` meets its contract: the answers follow the reader's steps. Assumes nothing.
-use borrow.Author.Rules.{rules}
 use borrow.Author.Tests.{not-true, not-false}
 use Rattle.rules.specs.ReadTypes.{param}
 use Rattle.image_words.proofs.Says.{then, stop, last}

@@ -3,7 +3,6 @@ use borrow.Author.Tests.{not-true, not-false}
 use Rattle.rules.specs.ReadDefinitions.{trait}
 use Rattle.image_words.proofs.Says.{then, stop}
 use Rattle.image_words.proofs.Loops.{made}
-use borrow.Author.Rules.{rules}
 use Rattle.pool_traits.proofs.check_trait.Goals as goal
 
 pub returns-then-not-a : goal.returns-then-not-a

@@ -1,19 +1,13 @@
 -- `pool_traits::check_trait_functions` meets its contract: each turn leaves one function less, and its name is kept.
-use borrow.Author.Rules.{rules}
-use Prim.Native.Nat.{◌-◌, ◌≤◌, ◌<◌}
-use mathlib.Core.Path.{◌≡◌, sym, ap, ◌∙◌}
+use Prim.Native.Nat.{◌-◌, ◌≤◌}
+use mathlib.Core.Path.{◌≡◌}
 use mathlib.Core.Bool.{true}
-use native.Mathlib.Omega.{arith}
-use lib.ListN.{length, take, length-set}
-use lib.Seq.{length-take-le}
-use borrow.Author.Tests.{not-true, not-false}
+use lib.ListN.{length, take}
 use Rattle.rules.specs.Words.{all_different}
 use Rattle.image_words.specs.Verdict.{section_words}
 use Rattle.image_words.proofs.Verdict.{Left}
-use Rattle.image_words.proofs.Says.{below_value}
 use Rattle.pool_traits.specs.Different.{different_functions}
-use Rattle.pool_traits.proofs.Different.{different_none, different_more, take_more}
-use Rattle.pool_traits.proofs.TraitLoop.{rest, functions_refused, functions_start, turn_refused, turn_twice, turn_more, functions_done}
+use Rattle.pool_traits.proofs.TraitLoop.{rest}
 use Rattle.pool_traits.proofs.check_trait_functions.Given as goal
 
 abbrev pub invariant-loop-i : goal.invariant-loop-i

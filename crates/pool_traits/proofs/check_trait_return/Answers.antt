@@ -1,7 +1,6 @@
 -- `pool_traits::check_trait_return` meets its contract: the answers follow the reader's steps.
 use borrow.Author.Tests.{not-true, not-false}
 use Rattle.pool_traits.proofs.TraitLoop.{return_refused, return_none, return_resolved, return_expression}
-use borrow.Author.Rules.{rules}
 use Rattle.pool_traits.proofs.check_trait_return.Goals as goal
 
 pub returns-then-not-f : goal.returns-then-not-f

@@ -1,12 +1,8 @@
 -- `pool_traits::listed` meets its contract: no number passed was the one looked for.
-use borrow.Author.Rules.{rules}
-use Prim.Native.Nat.{◌-◌, ◌≤◌}
-use mathlib.Core.Path.{◌≡◌, sym, ap, ◌∙◌}
+use Prim.Native.Nat.{◌-◌}
+use mathlib.Core.Path.{sym}
 use mathlib.Core.Bool.{false}
 use native.Mathlib.Omega.{arith}
-use lib.ListN.{length, take}
-use lib.Seq.{take_all}
-use Rattle.rules.specs.Words.{member}
 use Rattle.pool_traits.proofs.Different.{member_none, member_at, member_step}
 use Rattle.pool_traits.proofs.listed.Goals as goal
 

@@ -1,12 +1,9 @@
 -- Each arm is a step of the reader behind its code.
-use mathlib.Core.Path.{◌≡◌, sym, ◌∙◌}
-use Prim.Native.Nat.{◌-◌, ◌+◌, ◌*◌, ℕ, ◌<◌}
-use Rattle.rules.specs.declared.kinds.TypeKind.{TypeKind}
-use Rattle.image_words.specs.declared.Checked.{Checked}
-use Rattle.image_words.specs.Verdict.{section_words, Says}
+use mathlib.Core.Path.{sym}
+use Prim.Native.Nat.{◌-◌}
 use borrow.Author.Tests.{not-true, not-false}
 use Rattle.image_words.proofs.Says.{last, after_stop, after_goes, after, given, failed}
-use Rattle.rules.specs.ReadTypes.{type_expr_node, type_expr_tree}
+use Rattle.rules.specs.ReadTypes.{type_expr_node}
 use Rattle.image_words.proofs.Trees.{type_expr_is, tree_deep, tree_stop, tree_then}
 use Rattle.pool_type_exprs.proofs.+check_expr_part_check_type_expr_tree.Goals as goal
 

@@ -2,7 +2,6 @@
 use borrow.Author.Tests.{not-true, not-false}
 use Rattle.rules.specs.ReadTypes.{type_expr_node}
 use Rattle.image_words.proofs.Says.{then, stop, last}
-use borrow.Author.Rules.{rules}
 use Rattle.pool_type_exprs.proofs.check_qualified.Goals as goal
 
 pub returns-then-not-h : goal.returns-then-not-h

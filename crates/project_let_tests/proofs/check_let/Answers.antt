@@ -1,5 +1,4 @@
 -- `project_let_tests::check_let` meets its contract. Assumes nothing.
-use borrow.Author.Rules.{rules}
 use Rattle.project_outcome.proofs.Passing.{in_order}
 use Rattle.project_let_tests.proofs.check_let.Goals as goal
 

@@ -1,5 +1,4 @@
 -- `project_let_tests::check_value` meets its contract. Assumes nothing.
-use borrow.Author.Rules.{rules}
 use Rattle.project_let_tests.proofs.LetTests.{value_refused, value_passes}
 use Rattle.project_let_tests.proofs.check_value.Goals as goal
 

@@ -1,5 +1,4 @@
 -- `project_let_tests::no_local` meets its contract. Assumes nothing.
-use borrow.Author.Rules.{rules}
 use native.Mathlib.Omega.{arith}
 use mathlib.Core.Path.{ap, ◌∙◌}
 use Rattle.answers.specs.Refusals.{refusal_of}

@@ -1,5 +1,4 @@
 -- `skip_types::skip_type` meets its contract. Assumes nothing.
-use borrow.Author.Rules.{rules}
 use Rattle.rules.specs.Syntax.{TypeExpr}
 use Rattle.skip_types.proofs.Pending.{one_left}
 use Rattle.skip_types.proofs.skip_type.Goals as goal

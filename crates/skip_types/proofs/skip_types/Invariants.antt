@@ -1,15 +1,8 @@
 -- `skip_types::skip_types` meets its contract. The loop's invariant: what is pending ends where the whole does. Assumes nothing.
-use borrow.Author.Rules.{rules}
 use Prim.Native.Nat.{ℕ, ◌+◌, ◌-◌, ◌≤◌}
-use mathlib.Core.Path.{refl, ap, ◌∙◌}
-use native.Mathlib.Omega.{arith}
-use Rattle.rules.specs.Kinds.{type_kind}
 use Rattle.image_words.specs.Verdict.{section_words}
-use Rattle.image_words.proofs.Sections.{length_section}
 use Rattle.pool_type_exprs.specs.TypeExprAt.{TypeExprAt}
 use Rattle.skip_types.specs.Pending.{Pending}
-use Rattle.skip_types.proofs.Pending.{ended, of_first, turned}
-use Rattle.skip_types.proofs.TypeNodes.{type_parts, type_inside}
 use Rattle.skip_types.proofs.skip_types.Given as goal
 
 abbrev pub invariant-loop-pending : goal.invariant-loop-pending

@@ -1,7 +1,6 @@
 -- `subst_leaves::leaf` meets its contract. Assumes nothing.
 use mathlib.Core.Path.{refl}
 use native.Mathlib.Omega.{arith}
-use borrow.Author.Rules.{rules}
 use Rattle.subst_leaves.proofs.Parts.{leaf_stands}
 use Rattle.subst_leaves.proofs.Steps.{one_visit}
 use Rattle.subst_leaves.proofs.leaf.Goals as goal

@@ -2,7 +2,6 @@
 use Prim.Native.Nat.{ℕ}
 use mathlib.Core.Path.{◌≡◌, refl, subst, ◌∙◌}
 use native.Mathlib.Omega.{arith}
-use borrow.Author.Rules.{rules}
 use Rattle.rules.specs.Substitute.{resolve_name}
 use Rattle.type_words.specs.Holds.{Holds}
 use Rattle.subst_leaves.proofs.Parts.{named_stands}

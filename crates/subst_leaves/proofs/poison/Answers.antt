@@ -1,7 +1,6 @@
 -- `subst_leaves::poison` meets its contract. Assumes nothing.
 use mathlib.Core.Path.{refl}
 use native.Mathlib.Omega.{arith}
-use borrow.Author.Rules.{rules}
 use Rattle.rules.specs.Types.{POISON}
 use Rattle.laws.proofs.TypeExprs.{type_expr_exact}
 use Rattle.type_words.proofs.Trees.{named_holds}

@@ -2,7 +2,6 @@
 use Prim.Native.Nat.{ℕ}
 use mathlib.Core.Path.{◌≡◌, refl, subst₂, ◌∙◌}
 use native.Mathlib.Omega.{arith}
-use borrow.Author.Rules.{rules}
 use Rattle.rules.specs.Substitute.{lookup_qualified, named_or_poison}
 use Rattle.type_words.specs.Holds.{Holds}
 use Rattle.subst_leaves.proofs.Parts.{qualified_stands}

@@ -1,12 +1,7 @@
 -- `subst_params::argument` meets its contract. The loop's invariant: i words are copied. Assumes nothing.
-use borrow.Author.Rules.{rules}
-use Prim.Native.Nat.{◌+◌, ◌-◌, ◌≤◌}
-use mathlib.Core.Path.{◌≡◌, refl}
+use Prim.Native.Nat.{◌+◌, ◌-◌}
 use native.Mathlib.Omega.{arith}
-use lib.ListN.{length, length-set}
-use Rattle.type_from_pool.specs.Copies.{Copied}
-use Rattle.type_from_pool.proofs.Copies.{copied_more}
-use Rattle.type_from_pool.proofs.Resting.{few_read, type_read}
+use Rattle.type_from_pool.proofs.Resting.{type_read}
 use Rattle.subst_params.proofs.argument.Goals as goal
 
 pub returns : goal.returns

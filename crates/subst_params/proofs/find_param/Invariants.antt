@@ -1,16 +1,11 @@
 -- `subst_params::find_param` meets its contract. Assumes nothing.
-use borrow.Author.Rules.{rules}
 use Prim.Native.Nat.{ℕ, ◌-◌}
-use mathlib.Core.Path.{◌≡◌, refl, sym, subst, ◌∙◌}
+use mathlib.Core.Path.{◌≡◌}
 use mathlib.Core.List.{List}
-use native.Mathlib.Omega.{arith}
 use lib.ListN.{length}
 use Rattle.rules.specs.Syntax.{ResolvedType, Param}
 use Rattle.rules.specs.Substitute.{find_param}
-use Rattle.type_words.specs.declared.HeldType.{HeldType}
-use Rattle.type_words.specs.Holds.{Holds, MaybeHolds}
 use Rattle.subst_params.specs.Views.{Views}
-use Rattle.subst_params.proofs.RowsLaws.{found, passed, ended}
 use Rattle.subst_params.proofs.find_param.Given as goal
 
 abbrev pub invariant-loop-at : goal.invariant-loop-at

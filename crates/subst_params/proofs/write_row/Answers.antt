@@ -1,10 +1,7 @@
 -- `subst_params::write_row` meets its contract. Assumes nothing.
-use borrow.Author.Rules.{rules}
-use Prim.Native.Nat.{◌+◌, ◌-◌, ◌≤◌}
-use mathlib.Core.Path.{refl}
+use Prim.Native.Nat.{◌-◌}
 use native.Mathlib.Omega.{arith}
-use lib.ListN.{length-set}
-use Rattle.subst_params.proofs.Writes.{Filled, filled_more, written}
+use Rattle.subst_params.proofs.Writes.{written}
 use Rattle.subst_params.proofs.write_row.Goals as goal
 
 pub returns : goal.returns

@@ -1,10 +1,6 @@
 -- `subst_params::write_row` meets its contract. Assumes nothing.
-use borrow.Author.Rules.{rules}
 use Prim.Native.Nat.{◌+◌, ◌-◌, ◌≤◌}
-use mathlib.Core.Path.{refl}
-use native.Mathlib.Omega.{arith}
-use lib.ListN.{length-set}
-use Rattle.subst_params.proofs.Writes.{Filled, filled_more, written}
+use Rattle.subst_params.proofs.Writes.{Filled}
 use Rattle.subst_params.proofs.write_row.Given as goal
 
 abbrev pub invariant-loop-i : goal.invariant-loop-i

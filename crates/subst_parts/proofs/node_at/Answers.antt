@@ -1,7 +1,6 @@
 -- `subst_parts::node_at` meets its contract. Assumes nothing.
 use mathlib.Core.Path.{sym, ap, ◌∙◌}
 use native.Mathlib.Omega.{arith}
-use borrow.Author.Rules.{rules}
 use Rattle.rules.specs.Kinds.{type_kind}
 use Rattle.subst_parts.proofs.PartsLaws.{whole_at, whole_as, other_kind, told, told_none}
 use Rattle.subst_parts.proofs.node_at.Goals as goal

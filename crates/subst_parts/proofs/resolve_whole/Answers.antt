@@ -1,7 +1,6 @@
 -- `subst_parts::resolve_whole` meets its contract. Assumes nothing.
 use mathlib.Core.Path.{sym, ap, ◌∙◌}
 use native.Mathlib.Omega.{arith}
-use borrow.Author.Rules.{rules}
 use Rattle.rules.specs.Kinds.{type_kind}
 use Rattle.subst_parts.proofs.Nodes.{of_none, of_past, of_plain, of_sub, of_bits, of_named, of_qualified, of_unknown}
 use Rattle.subst_parts.proofs.PartsLaws.{as_kind, of_poison}

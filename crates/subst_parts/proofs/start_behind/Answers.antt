@@ -1,7 +1,6 @@
 -- `subst_parts::start_behind` meets its contract. Assumes nothing.
 use mathlib.Core.Path.{refl}
 use native.Mathlib.Omega.{arith}
-use borrow.Author.Rules.{rules}
 use Rattle.subst_parts.specs.declared.Parts.{Parts}
 use Rattle.subst_parts.proofs.PartsLaws.{behind_as}
 use Rattle.subst_parts.proofs.start_behind.Goals as goal

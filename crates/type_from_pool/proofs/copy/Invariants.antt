@@ -1,19 +1,13 @@
 -- `type_from_pool::copy` meets its contract. The loop's invariant: i words are copied, and passed to what tells nodes from other words. Assumes nothing.
-use Prim.Native.Nat.{ℕ, ◌-◌, ◌<◌, ◌≤◌}
-use mathlib.Core.Path.{◌≡◌, refl, sym, ap, ◌∙◌}
+use Prim.Native.Nat.{ℕ, ◌-◌, ◌≤◌}
+use mathlib.Core.Path.{◌≡◌}
 use mathlib.Core.List.{List}
-use native.Mathlib.Omega.{arith}
-use borrow.Author.Rules.{rules}
-use lib.ListN.{length, take, length-set}
-use Rattle.rules.specs.Syntax.{run}
+use lib.ListN.{length}
 use Rattle.image_words.specs.Verdict.{section_words}
 use Rattle.image_words.specs.Stands.{Stands}
 use Rattle.type_poison.specs.declared.Seen.{Seen}
-use Rattle.type_poison.proofs.Passed.{Passed, passed_none, passed_more, passed_type}
-use Rattle.type_words.proofs.Runs.{counted}
-use Rattle.type_words.proofs.Trees.{holds}
+use Rattle.type_poison.proofs.Passed.{Passed}
 use Rattle.type_from_pool.specs.Copies.{Copied}
-use Rattle.type_from_pool.proofs.Copies.{copied_more, copied_run, stands_copied}
 use Rattle.type_from_pool.proofs.copy.Given as goal
 
 pub record Inv (ws : List ℕ) (at end n : ℕ) (words : List ℕ) (seen : Seen) (before i : ℕ) : Type 0 where

@@ -1,7 +1,6 @@
 -- `type_from_pool::hold_type` meets its contract. Assumes nothing.
 use Prim.Native.Nat.{ℕ}
 use mathlib.Core.Path.{sym, subst}
-use borrow.Author.Rules.{rules}
 use Rattle.rules.specs.Syntax.{run}
 use Rattle.rules.proofs.Types.{type_exact}
 use Rattle.image_words.proofs.Gives.{of}

@@ -1,6 +1,5 @@
 -- `type_tests::is_equality_type` meets its contract, by the laws of the codes. Assumes nothing.
 use mathlib.Core.Path.{sym, ◌∙◌}
-use borrow.Author.Rules.{rules}
 use Rattle.type_tests.proofs.ByCode.{equality_held, equality_numeric, equality_at, equality_off}
 use Rattle.type_tests.proofs.is_equality_type.Goals as goal
 

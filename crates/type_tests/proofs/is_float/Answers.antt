@@ -1,6 +1,5 @@
 -- `type_tests::is_float` meets its contract, by the laws of the codes. Assumes nothing.
 use native.Mathlib.Omega.{arith}
-use borrow.Author.Rules.{rules}
 use Rattle.type_tests.proofs.ByCode.{float_held, float_in, float_off}
 use Rattle.type_tests.proofs.is_float.Goals as goal
 

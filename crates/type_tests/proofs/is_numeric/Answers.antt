@@ -1,6 +1,5 @@
 -- `type_tests::is_numeric` meets its contract, by the laws of the codes. Assumes nothing.
 use native.Mathlib.Omega.{arith}
-use borrow.Author.Rules.{rules}
 use Rattle.type_tests.proofs.ByCode.{numeric_held, numeric_in, numeric_sub, numeric_off}
 use Rattle.type_tests.proofs.is_numeric.Goals as goal
 

@@ -3,7 +3,6 @@ use native.Mathlib.Omega.{arith}
 use Prim.Native.Nat.{ℕ}
 use mathlib.Core.Path.{ap, ◌∙◌}
 use lib.Dec.{eqb}
-use borrow.Author.Rules.{rules}
 use Rattle.type_tests.proofs.ByCode.{signed_held, signed_in, signed_sub, signed_off}
 use Rattle.type_tests.proofs.is_signed_numeric.Goals as goal
 

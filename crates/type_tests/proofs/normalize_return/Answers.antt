@@ -1,5 +1,4 @@
 -- `type_tests::normalize_return` meets its contract. Assumes nothing.
-use borrow.Author.Rules.{rules}
 use mathlib.Core.Path.{sym, ◌∙◌}
 use Rattle.type_tests.proofs.Returns.{void_return, other_return, no_return}
 use Rattle.type_tests.proofs.normalize_return.Goals as goal

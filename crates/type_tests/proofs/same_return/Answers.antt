@@ -1,5 +1,4 @@
 -- `type_tests::same_return` meets its contract. Assumes nothing.
-use borrow.Author.Rules.{rules}
 use Rattle.type_tests.proofs.Returns.{both_return, first_return, second_return}
 use Rattle.type_tests.proofs.same_return.Goals as goal
 

@@ -1,12 +1,8 @@
 -- `type_tests::same_type` meets its contract. The loop's invariant: the words passed agree. Assumes nothing.
-use native.Mathlib.Omega.{arith}
 use Prim.Native.Nat.{ℕ, ◌≤◌, ◌<◌, ◌-◌}
-use mathlib.Core.Path.{◌≡◌, ap}
-use borrow.Author.Rules.{rules}
-use borrow.Author.Count.{below_more}
-use lib.ListN.{length, get_or}
+use mathlib.Core.Path.{◌≡◌}
+use lib.ListN.{get_or}
 use Rattle.type_words.specs.Runs.{held_run}
-use Rattle.type_tests.proofs.Equal.{differ, differ_at, agree_at, agree}
 use Rattle.type_tests.proofs.same_type.Given as goal
 
 abbrev pub invariant-loop-i : goal.invariant-loop-i

@@ -1,7 +1,6 @@
 -- `utf8::begin` meets its contract. Assumes nothing.
 use mathlib.Core.Path.{refl, sym, ◌∙◌}
 use native.Mathlib.Omega.{arith}
-use borrow.Author.Rules.{rules}
 use Rattle.utf8.proofs.Table.{row, no_row_low, no_row_high}
 use Rattle.utf8.proofs.begin.Goals as goal
 

@@ -1,11 +1,6 @@
 -- `utf8::behind_ascii` meets its contract. Assumes nothing.
 use Prim.Native.Nat.{◌-◌}
-use native.Mathlib.Omega.{arith}
-use borrow.Author.Rules.{rules}
-use borrow.Author.Tests.{not-false}
-use lib.ListN.{length, drop, length-take, length-drop}
 use Rattle.utf8.specs.Ascii.{Begins}
-use Rattle.utf8.proofs.AsciiLaws.{from_start, eight_further}
 use Rattle.utf8.proofs.behind_ascii.Given as goal
 
 abbrev pub invariant-loop-i : goal.invariant-loop-i

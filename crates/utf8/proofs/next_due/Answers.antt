@@ -1,7 +1,6 @@
 -- `utf8::next_due` meets its contract. Assumes nothing.
 use mathlib.Core.Path.{sym, ◌∙◌}
 use native.Mathlib.Omega.{arith}
-use borrow.Author.Rules.{rules}
 use Rattle.utf8.proofs.Walk.{due_first, due_inside, due_outside}
 use Rattle.utf8.proofs.next_due.Goals as goal
 

@@ -1,13 +1,9 @@
 -- `utf8::well_formed` meets its contract. Assumes nothing.
-use mathlib.Core.Path.{◌≡◌, sym, ◌∙◌}
+use mathlib.Core.Path.{◌≡◌}
 use Prim.Native.Nat.{◌-◌, ◌≤◌}
-use native.Mathlib.Omega.{arith}
-use borrow.Author.Rules.{rules}
-use borrow.Author.Tests.{not-true, not-false}
 use lib.ListN.{length, drop}
 use Rattle.rules.specs.Utf8.{well_formed_from, well_formed}
 use Rattle.utf8.specs.Due.{due_of}
-use Rattle.utf8.proofs.Walk.{goes_on, stops, ended}
 use Rattle.utf8.proofs.well_formed.Given as goal
 
 abbrev pub invariant-loop-i : goal.invariant-loop-i

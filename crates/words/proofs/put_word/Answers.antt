@@ -1,4 +1,3 @@
--- Four stores are one splice.
 use mathlib.Core.Path.{refl, sym, ◌∙◌}
 use native.Mathlib.Omega.{arith}
 use Rattle.words.proofs.Puts.{put_fits, put_past, four}
@@ -10,7 +9,7 @@ returns c =
     let a = c.args in (
       refl,
       elim c.if-at-limit.branch [
-      | then-at-limit w ↦ w.out-is ∙ four a.out.now a.at _ _ _ _ (omega (arith, c.requires)) ∙ sym (put_fits a.limit a.at a.w a.out.now w.if-at-limit.true)
-      | else-at-limit w ↦ w.out-is ∙ sym (put_past a.limit a.at a.w a.out.now w.if-at-limit.false)
+        | then-at-limit w ↦ w.out-is ∙ four a.out.now a.at _ _ _ _ (omega (arith, c.requires)) ∙ sym (put_fits a.limit a.at a.w a.out.now w.if-at-limit.true)
+        | else-at-limit w ↦ w.out-is ∙ sym (put_past a.limit a.at a.w a.out.now w.if-at-limit.false)
       ],
     )

@@ -1,9 +1,10 @@
 -- A value's words are its type's run, then its parts'.
-use Prim.Native.Nat.{ℕ, ◌+◌, ◌*◌, ◌<◌}
+use Prim.Native.Nat.{ℕ, ◌+◌, ◌<◌}
 use native.Mathlib.Omega.{arith}
 use mathlib.Core.Path.{◌≡◌, refl, sym, ap, subst, ◌∙◌}
 use mathlib.Core.List.{[], ◌∷◌}
 use lib.ListN.{length}
+use Rattle.rules.specs.Kinds.{expr_kind}
 use Rattle.rules.specs.Syntax.{run, Expr}
 use Rattle.rules.specs.Infer.{type_of, infer_expr}
 use Rattle.type_words.specs.Runs.{Runs}

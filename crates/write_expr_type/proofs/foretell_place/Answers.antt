@@ -1,5 +1,4 @@
 -- `write_expr_type::foretell_place` meets its contract. Assumes nothing.
-use borrow.Author.Rules.{rules}
 use Rattle.rules.specs.Infer.{expression_hint}
 use Rattle.write_expr_type.proofs.foretell_place.Goals as goal
 

@@ -1,5 +1,4 @@
 -- `write_expr_type::operand_type` meets its contract. Assumes nothing.
-use borrow.Author.Rules.{rules}
 use mathlib.Core.Path.{sym, subst}
 use mathlib.Core.Option.{none}
 use Rattle.rules.specs.Syntax.{ResolvedType, run}

@@ -1,5 +1,4 @@
 -- `write_expr_type::or_void` meets its contract. Assumes nothing.
-use borrow.Author.Rules.{rules}
 use mathlib.Core.Path.{sym, subst}
 use Rattle.rules.specs.Types.{VOID}
 use Rattle.type_words.specs.Holds.{Holds}

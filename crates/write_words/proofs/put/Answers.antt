@@ -1,10 +1,6 @@
 -- `write_words::put` meets its contract: the writer has the bytes below the limit. Assumes nothing.
-use borrow.Author.Rules.{rules}
-use mathlib.Core.Path.{sym}
-use native.Mathlib.Omega.{arith}
-use lib.Seq.{length-take-le}
 use Rattle.write_words.proofs.Prefix.{put_prefix}
-use Rattle.write_words.proofs.Written.{written_one, written_far}
+use Rattle.write_words.proofs.Written.{written_one}
 use Rattle.write_words.proofs.put.Goals as goal
 
 pub returns : goal.returns

@@ -1,10 +1,6 @@
 -- `write_words::put_two` meets its contract: the writer has the bytes below the limit for both words. Assumes nothing.
-use borrow.Author.Rules.{rules}
-use mathlib.Core.Path.{sym}
-use native.Mathlib.Omega.{arith}
-use lib.Seq.{length-take-le}
 use Rattle.write_words.proofs.Prefix.{put_two_prefix}
-use Rattle.write_words.proofs.Written.{written_two, written_far}
+use Rattle.write_words.proofs.Written.{written_two}
 use Rattle.write_words.proofs.put_two.Goals as goal
 
 pub returns : goal.returns

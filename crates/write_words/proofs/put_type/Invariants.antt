@@ -1,13 +1,10 @@
 -- `write_words::put_type` meets its contract. The loop's invariant: the first i words of the run are written. Assumes nothing.
-use borrow.Author.Rules.{rules}
 use Prim.Native.Nat.{ℕ, ◌-◌, ◌≤◌}
-use native.Mathlib.Omega.{arith}
-use mathlib.Core.Path.{◌≡◌, ap, ◌∙◌}
+use mathlib.Core.Path.{◌≡◌}
 use mathlib.Core.List.{List}
-use lib.ListN.{length, take, get_or}
+use lib.ListN.{length, take}
 use Rattle.type_words.specs.Runs.{Runs}
 use Rattle.write_words.specs.Written.{Written}
-use Rattle.write_words.proofs.Written.{written_none, written_more, written_all}
 use Rattle.write_words.proofs.put_type.Given as goal
 
 abbrev pub invariant-loop-i : goal.invariant-loop-i

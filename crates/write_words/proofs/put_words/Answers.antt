@@ -1,15 +1,12 @@
 -- `write_words::put_words` meets its contract. The loop's invariant: the first i words are written, and the next stands behind them. Assumes nothing.
 use borrow.Author.Rules.{rules}
-use Prim.Native.Nat.{ℕ, ◌+◌, ◌-◌, ◌≤◌, ◌<◌}
+use Prim.Native.Nat.{ℕ, ◌+◌, ◌-◌, ◌<◌}
 use native.Mathlib.Omega.{arith}
 use mathlib.Core.Path.{◌≡◌, ap, ◌∙◌}
-use mathlib.Core.List.{List}
-use lib.ListN.{length, take, get_or}
+use lib.ListN.{length, get_or}
 use Rattle.image_words.specs.Verdict.{section_words}
 use Rattle.image_words.proofs.Sections.{length_section}
-use Rattle.image_words.specs.Stands.{Stands}
-use Rattle.write_words.specs.Written.{Written}
-use Rattle.write_words.proofs.Written.{written_none, written_more, written_all}
+use Rattle.write_words.proofs.Written.{written_none, written_more}
 use Rattle.write_words.proofs.Copies.{stands_word, stands_within}
 use Rattle.write_words.proofs.put_words.Goals as goal
 
@@ -17,15 +14,14 @@ pub loop-i-init : goal.loop-i-init
 loop-i-init c = (omega arith, search rules, λ ws n s l. (omega arith, written_none _ _ _))
 
 pub loop-i-preserved : goal.loop-i-preserved
-loop-i-preserved c =
-    (
-      omega arith,
-      search rules,
-      λ ws n s l.
-          let v = c.loop-i.invariant.2 ws n s l in
-          let h : c.loop-i.i < length ws = omega (arith, l, c.loop-i-test.true) in
-          let e : c.loop-i.from ≡ c.args.at + c.loop-i.i = v.0 in (
-            c.after-from.ensures (omega (arith, stands_within s c.loop-i.i h, length_section c.requires.0.pool)) ∙ omega arith,
-            written_more _ _ ws c.loop-i.i h v.1 (c.section_word.ensures ∙ ap (λ (k : ℕ). get_or (section_words c.args.image.now c.args.l.pool) k 0) e ∙ stands_word s c.loop-i.i h) c.put-next.ensures,
-          ),
-    )
+loop-i-preserved c = (
+  omega arith,
+  search rules,
+  λ ws n s l.
+      let v = c.loop-i.invariant.2 ws n s l in
+      let h : c.loop-i.i < length ws = omega (arith, l, c.loop-i-test.true) in
+      let e : c.loop-i.from ≡ c.args.at + c.loop-i.i = v.0 in (
+        c.after-from.ensures (omega (arith, stands_within s c.loop-i.i h, length_section c.requires.0.pool)) ∙ omega arith,
+        written_more _ _ ws c.loop-i.i h v.1 (c.section_word.ensures ∙ ap (λ (k : ℕ). get_or (section_words c.args.image.now c.args.l.pool) k 0) e ∙ stands_word s c.loop-i.i h) c.put-next.ensures,
+      ),
+)

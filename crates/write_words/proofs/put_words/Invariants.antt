@@ -1,16 +1,11 @@
 -- `write_words::put_words` meets its contract. The loop's invariant: the first i words are written, and the next stands behind them. Assumes nothing.
-use borrow.Author.Rules.{rules}
-use Prim.Native.Nat.{ℕ, ◌+◌, ◌-◌, ◌≤◌, ◌<◌}
-use native.Mathlib.Omega.{arith}
-use mathlib.Core.Path.{◌≡◌, ap, ◌∙◌}
+use Prim.Native.Nat.{ℕ, ◌+◌, ◌-◌, ◌≤◌}
+use mathlib.Core.Path.{◌≡◌}
 use mathlib.Core.List.{List}
-use lib.ListN.{length, take, get_or}
+use lib.ListN.{length, take}
 use Rattle.image_words.specs.Verdict.{section_words}
-use Rattle.image_words.proofs.Sections.{length_section}
 use Rattle.image_words.specs.Stands.{Stands}
 use Rattle.write_words.specs.Written.{Written}
-use Rattle.write_words.proofs.Written.{written_none, written_more, written_all}
-use Rattle.write_words.proofs.Copies.{stands_word, stands_within}
 use Rattle.write_words.proofs.put_words.Given as goal
 
 abbrev pub invariant-loop-i : goal.invariant-loop-i

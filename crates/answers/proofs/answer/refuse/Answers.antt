@@ -5,7 +5,6 @@ use Rattle.rules.specs.Answer.{refused}
 use Rattle.answers.specs.Refusals.{refusal_of}
 use Rattle.answers.specs.Answers.{answer_of}
 use Rattle.answers.proofs.Fields.{fields}
-use borrow.Author.Rules.{rules}
 use Rattle.answers.proofs.answer.refuse.Goals as goal
 
 pub returns : goal.returns

@@ -1,5 +1,4 @@
 use Rattle.answers.proofs.Writes.{writes_one}
-use borrow.Author.Rules.{rules}
 use Rattle.answers.proofs.output.put.Goals as goal
 
 pub returns : goal.returns

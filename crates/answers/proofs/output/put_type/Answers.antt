@@ -1,7 +1,5 @@
-use mathlib.Core.Path.{◌≡◌, sym}
-use native.Mathlib.Omega.{arith}
+use mathlib.Core.Path.{◌≡◌}
 use lib.ListN.{length}
-use lib.Seq.{length-take-le}
 use Rattle.answers.proofs.Writes.{writes_same}
 use Rattle.type_words.proofs.Runs.{run_take}
 use borrow.Author.Rules.{rules}

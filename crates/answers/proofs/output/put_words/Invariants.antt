@@ -1,12 +1,7 @@
-use borrow.Author.Rules.{rules}
-use mathlib.Core.Path.{◌≡◌, refl, ap, ap₂, ◌∙◌}
-use Prim.Native.Nat.{ℕ, ◌+◌, ◌*◌, ◌-◌, ◌≤◌}
-use native.Mathlib.Omega.{arith}
-use lib.ListN.{length, take, get_or}
-use lib.Seq.{take_all}
-use mathlib.Core.List.{List}
-use Rattle.words.specs.Puts.{put, puts}
-use Rattle.words.proofs.Puts.{puts_step}
+use mathlib.Core.Path.{◌≡◌}
+use Prim.Native.Nat.{◌+◌, ◌*◌, ◌-◌, ◌≤◌}
+use lib.ListN.{length, take}
+use Rattle.words.specs.Puts.{puts}
 use Rattle.answers.proofs.output.put_words.Given as goal
 
 abbrev pub invariant-loop-i : goal.invariant-loop-i

@@ -1,19 +1,15 @@
 -- `check_signature::params::check_params` meets its contract. The loop's invariant: the parameters that are left decide. Assumes nothing.
-use borrow.Author.Rules.{rules}
-use borrow.Author.Tests.{not-true, not-false}
 use Prim.Native.Nat.{ℕ, ◌-◌}
-use native.Mathlib.Omega.{arith}
 use mathlib.Core.Path.{◌≡◌}
 use mathlib.Core.List.{List}
 use lib.ListN.{length}
 use Rattle.rules.specs.Syntax.{ResolvedType, Param}
 use Rattle.image_words.specs.Gives.{Row}
-use Rattle.image_words.proofs.Sections.{length_section}
 use Rattle.image_layout.specs.Open.{pool_words}
 use Rattle.pool_types.specs.TypeAt.{TypeStands}
 use Rattle.pool_types.specs.ParamAt.{ParamAt}
 use Rattle.locals.specs.Rows.{Rows}
-use Rattle.check_signature.proofs.ParamsLaws.{Left, started, done, refusing, turned}
+use Rattle.check_signature.proofs.ParamsLaws.{Left}
 use Rattle.check_signature.proofs.params.check_params.Given as goal
 
 abbrev pub invariant-loop-i : goal.invariant-loop-i

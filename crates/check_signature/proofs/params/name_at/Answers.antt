@@ -1,5 +1,4 @@
 -- `check_signature::params::name_at` meets its contract. Assumes nothing.
-use borrow.Author.Rules.{rules}
 use mathlib.Core.Path.{sym}
 use lib.ListN.{get_or-eq_default}
 use Rattle.check_signature.proofs.params.name_at.Goals as goal

@@ -1,5 +1,4 @@
 -- `check_signature::parts::hold_return` meets its contract. Assumes nothing.
-use borrow.Author.Rules.{rules}
 use native.Mathlib.Omega.{arith}
 use Rattle.image_words.proofs.Sections.{length_section}
 use Rattle.check_signature.proofs.Ends.{no_return, held_return}

@@ -1,5 +1,4 @@
 -- `check_types::mismatch::add_return` meets its contract. Assumes nothing.
-use borrow.Author.Rules.{rules}
 use native.Mathlib.Omega.{arith}
 use Rattle.check_types.proofs.Details.{added_some, added_none}
 use Rattle.check_types.proofs.mismatch.add_return.Goals as goal

@@ -1,5 +1,4 @@
 -- `check_types::mismatch::wrong_return` meets its contract. Assumes nothing.
-use borrow.Author.Rules.{rules}
 use native.Mathlib.Omega.{arith}
 use Rattle.check_types.proofs.Details.{return_small, adds_word, adds_return}
 use Rattle.check_types.proofs.mismatch.wrong_return.Goals as goal

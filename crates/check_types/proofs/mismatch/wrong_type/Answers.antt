@@ -1,5 +1,4 @@
 -- `check_types::mismatch::wrong_type` meets its contract. Assumes nothing.
-use borrow.Author.Rules.{rules}
 use native.Mathlib.Omega.{arith}
 use Rattle.check_types.proofs.Details.{adds, adds_word}
 use Rattle.check_types.proofs.mismatch.wrong_type.Goals as goal

@@ -1,7 +1,6 @@
 -- `image::check_rows` meets its contract. Assumes nothing.
 use borrow.Author.Tests.{not-true, not-false}
 use Rattle.image.proofs.Reading.{names_refuse, texts_refuse, strings_refuse, definitions_say}
-use borrow.Author.Rules.{rules}
 use Rattle.image.proofs.all.check_rows.Goals as goal
 
 pub returns-then-not-named : goal.returns-then-not-named

@@ -3,7 +3,6 @@ use mathlib.Core.Path.{refl}
 use Rattle.rules.specs.Image.{definition_node}
 use Rattle.image_words.proofs.Says.{given, failed}
 use Rattle.image_rows.proofs.RowSteps.{elsewhere, definition_then}
-use borrow.Author.Rules.{rules}
 use Rattle.image_rows.proofs.definitions.check_definition_row.Goals as goal
 
 pub returns-in-Other : goal.returns-in-Other

@@ -1,7 +1,6 @@
 -- `image_rows::check_string_row` meets its contract. Assumes nothing.
 use Prim.Native.Nat.{◌+◌}
 use native.Mathlib.Omega.{arith}
-use borrow.Author.Rules.{rules}
 use borrow.Author.Tests.{le-leb, lt-leb}
 use Rattle.rules.specs.Image.{string_row}
 use Rattle.image_words.proofs.Says.{last, rule_then, rule_stop}

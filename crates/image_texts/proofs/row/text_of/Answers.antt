@@ -1,4 +1,3 @@
-use borrow.Author.Rules.{rules}
 use Rattle.image_texts.specs.Rows.{row_text}
 use Rattle.image_texts.proofs.row.text_of.Goals as goal
 

@@ -1,10 +1,7 @@
--- what is left of the two decides
-use mathlib.Core.Path.{◌≡◌, refl, sym, ◌∙◌}
-use Prim.Native.Nat.{◌-◌, ◌≤◌}
+use mathlib.Core.Path.{sym, ◌∙◌}
+use Prim.Native.Nat.{◌-◌}
 use native.Mathlib.Omega.{arith}
 use borrow.Author.Rules.{rules}
-use lib.ListN.{length, drop}
-use Rattle.rules.specs.Words.{same}
 use Rattle.image_texts.proofs.SameLaws.{same_long, same_next, same_apart, same_end}
 use Rattle.image_texts.proofs.same.same_text.Goals as goal
 

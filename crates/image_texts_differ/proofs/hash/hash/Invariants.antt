@@ -1,10 +1,7 @@
-use mathlib.Core.Path.{◌≡◌, refl, sym, ap, ◌∙◌}
-use Prim.Native.Nat.{ℕ, ◌+◌, ◌*◌, ◌%◌, ◌-◌, ◌≤◌}
-use native.Mathlib.Omega.{arith}
-use borrow.Author.Rules.{rules}
+use mathlib.Core.Path.{◌≡◌}
+use Prim.Native.Nat.{◌-◌, ◌≤◌}
 use lib.ListN.{length, drop}
-use Rattle.image_texts_differ.specs.Hash.{hash_from, hash_of}
-use Rattle.image_texts_differ.proofs.HashLaws.{hash_step, hash_end}
+use Rattle.image_texts_differ.specs.Hash.{hash_from}
 use Rattle.image_texts_differ.proofs.hash.hash.Given as goal
 
 abbrev pub invariant-loop-i : goal.invariant-loop-i

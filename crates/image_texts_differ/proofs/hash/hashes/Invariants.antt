@@ -1,11 +1,7 @@
-use mathlib.Core.Path.{◌≡◌, refl, sym, ap, ◌∙◌}
+use mathlib.Core.Path.{◌≡◌}
 use Prim.Native.Nat.{◌-◌, ◌≤◌}
-use native.Mathlib.Omega.{arith}
-use borrow.Author.Rules.{rules}
-use lib.ListN.{length, length-set}
-use Rattle.image_texts.specs.Rows.{row_text}
-use Rattle.image_texts_differ.specs.Hash.{hash_of, Hashes, Blank}
-use Rattle.image_texts_differ.proofs.HashLaws.{hashes_more, blank_more, blank_all}
+use lib.ListN.{length}
+use Rattle.image_texts_differ.specs.Hash.{Hashes, Blank}
 use Rattle.image_texts_differ.proofs.hash.hashes.Given as goal
 
 abbrev pub invariant-loop-i : goal.invariant-loop-i

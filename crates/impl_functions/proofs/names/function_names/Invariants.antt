@@ -1,15 +1,11 @@
 -- `impl_functions::names::function_names` meets its contract. The loop's invariant: the names in the table, then those that are left. Assumes nothing.
-use borrow.Author.Rules.{rules}
 use Prim.Native.Nat.{ℕ, ◌-◌, ◌≤◌}
-use mathlib.Core.Path.{◌≡◌, refl, ◌∙◌}
+use mathlib.Core.Path.{◌≡◌}
 use mathlib.Core.List.{List}
-use native.Mathlib.Omega.{arith}
-use lib.ListN.{length, length-set}
+use lib.ListN.{length}
 use Rattle.rules.specs.Syntax.{TraitFnDef}
-use Rattle.image_words.proofs.Sections.{length_section}
 use Rattle.impl_functions.specs.Functions.{AllAskedHere}
-use Rattle.impl_functions.proofs.Walk.{started}
-use Rattle.impl_functions.proofs.NameTables.{Names, named, all_named}
+use Rattle.impl_functions.proofs.NameTables.{Names}
 use Rattle.impl_functions.proofs.names.function_names.Given as goal
 
 abbrev pub invariant-loop-i : goal.invariant-loop-i

@@ -1,14 +1,11 @@
 -- `impl_functions::names::own_names` meets its contract. The loop's invariant: the names in the table, then those that are left. Assumes nothing.
 use borrow.Author.Rules.{rules}
-use Prim.Native.Nat.{◌-◌, ◌≤◌}
-use mathlib.Core.Path.{◌≡◌, refl}
-use mathlib.Core.List.{List}
+use Prim.Native.Nat.{◌-◌}
+use mathlib.Core.Path.{refl}
 use native.Mathlib.Omega.{arith}
-use lib.ListN.{length, length-set}
-use Rattle.rules.specs.Syntax.{ImplFnDef}
-use Rattle.impl_functions.specs.Functions.{Placed}
+use lib.ListN.{length-set}
 use Rattle.impl_functions.proofs.PlaceTable.{passed}
-use Rattle.impl_functions.proofs.NameTables.{OwnNames, own_named, all_own}
+use Rattle.impl_functions.proofs.NameTables.{own_named, all_own}
 use Rattle.impl_functions.proofs.names.own_names.Goals as goal
 
 pub loop-i-init : goal.loop-i-init
@@ -18,12 +15,11 @@ pub bounds-names-i : goal.bounds-names-i
 bounds-names-i c = omega (arith, c.requires.1)
 
 pub loop-i-preserved : goal.loop-i-preserved
-loop-i-preserved c =
-    (
-      simp length-set c.loop-i.invariant.0,
-      omega arith,
-      λ fs h. own_named _ c.args.l fs _ _ (c.loop-i.invariant.2 fs h) c.loop-i-test.true (omega (arith, c.requires.1)) c.name_at-name.ensures.own,
-    )
+loop-i-preserved c = (
+  simp length-set c.loop-i.invariant.0,
+  omega arith,
+  λ fs h. own_named _ c.args.l fs _ _ (c.loop-i.invariant.2 fs h) c.loop-i-test.true (omega (arith, c.requires.1)) c.name_at-name.ensures.own,
+)
 
 pub returns : goal.returns
 returns c = λ fs h. all_own _ c.args.l fs _ _ (c.loop-i.invariant.2 fs h) c.loop-i-test.false c.loop-i.invariant.1

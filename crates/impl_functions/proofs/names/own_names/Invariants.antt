@@ -1,14 +1,11 @@
 -- `impl_functions::names::own_names` meets its contract. The loop's invariant: the names in the table, then those that are left. Assumes nothing.
-use borrow.Author.Rules.{rules}
 use Prim.Native.Nat.{◌-◌, ◌≤◌}
-use mathlib.Core.Path.{◌≡◌, refl}
+use mathlib.Core.Path.{◌≡◌}
 use mathlib.Core.List.{List}
-use native.Mathlib.Omega.{arith}
-use lib.ListN.{length, length-set}
+use lib.ListN.{length}
 use Rattle.rules.specs.Syntax.{ImplFnDef}
 use Rattle.impl_functions.specs.Functions.{Placed}
-use Rattle.impl_functions.proofs.PlaceTable.{passed}
-use Rattle.impl_functions.proofs.NameTables.{OwnNames, own_named, all_own}
+use Rattle.impl_functions.proofs.NameTables.{OwnNames}
 use Rattle.impl_functions.proofs.names.own_names.Given as goal
 
 abbrev pub invariant-loop-i : goal.invariant-loop-i

@@ -1,5 +1,4 @@
 -- `impl_functions::places::after_function` meets its contract. Assumes nothing.
-use borrow.Author.Rules.{rules}
 use Rattle.impl_functions.proofs.places.after_function.Goals as goal
 
 pub returns : goal.returns

@@ -1,13 +1,10 @@
 -- `impl_functions::search::find_function` meets its contract. The loop's invariant: what is found among those that are left is found among all. Assumes nothing.
-use borrow.Author.Rules.{rules}
 use Prim.Native.Nat.{◌-◌}
-use mathlib.Core.Path.{refl}
 use mathlib.Core.List.{List}
 use lib.ListN.{length}
 use Rattle.rules.specs.Syntax.{ImplFnDef}
 use Rattle.impl_functions.specs.Functions.{Placed}
-use Rattle.impl_functions.proofs.PlaceTable.{passed}
-use Rattle.impl_functions.proofs.FindByName.{Left, came, goes, nowhere}
+use Rattle.impl_functions.proofs.FindByName.{Left}
 use Rattle.impl_functions.proofs.search.find_function.Given as goal
 
 abbrev pub invariant-loop-i : goal.invariant-loop-i

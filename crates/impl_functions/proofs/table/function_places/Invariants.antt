@@ -1,15 +1,11 @@
 -- `impl_functions::table::function_places` meets its contract. The loop's invariant: the places in the table, and those of what is left behind them, are all. Assumes nothing.
-use borrow.Author.Rules.{rules}
 use Prim.Native.Nat.{ℕ, ◌-◌, ◌≤◌}
-use mathlib.Core.Path.{◌≡◌, ◌∙◌}
+use mathlib.Core.Path.{◌≡◌}
 use mathlib.Core.List.{List}
-use native.Mathlib.Omega.{arith}
-use lib.ListN.{length, length-set}
+use lib.ListN.{length}
 use Rattle.rules.specs.Syntax.{ImplFnDef}
-use Rattle.image_words.proofs.Sections.{length_section}
 use Rattle.impl_functions.specs.Functions.{FunctionHere, FunctionsHere}
-use Rattle.impl_functions.proofs.Walk.{started}
-use Rattle.impl_functions.proofs.PlaceTable.{Placing, placed, all_placed}
+use Rattle.impl_functions.proofs.PlaceTable.{Placing}
 use Rattle.impl_functions.proofs.table.function_places.Given as goal
 
 abbrev pub invariant-loop-i : goal.invariant-loop-i

@@ -2,19 +2,14 @@
 use borrow.Author.Rules.{rules}
 use Prim.Native.Nat.{ℕ, ◌-◌}
 use mathlib.Core.Path.{◌≡◌, refl, sym, ap, ◌∙◌}
-use mathlib.Core.List.{List}
 use native.Mathlib.Omega.{arith}
 use borrow.Author.Tests.{not-true, not-false}
 use lib.ListN.{length, take}
 use lib.Seq.{length-take-le}
-use Rattle.rules.specs.Syntax.{ImplFnDef, TraitFnDef}
 use Rattle.rules.specs.Words.{member}
-use Rattle.rules.specs.Project.{no_stranger}
 use Rattle.answers.specs.Refusals.{refusal_of}
-use Rattle.pool_traits.specs.Different.{names_of}
-use Rattle.impl_functions.specs.Functions.{Placed, AllAskedHere}
 use Rattle.impl_functions.proofs.PlaceTable.{passed}
-use Rattle.impl_name_tests.proofs.NameTests.{Tested, not_known, known, all_known}
+use Rattle.impl_name_tests.proofs.NameTests.{not_known, known, all_known}
 use Rattle.impl_name_tests.proofs.strangers.no_stranger.Goals as goal
 
 pub loop-i-init : goal.loop-i-init

@@ -1,5 +1,4 @@
 use Rattle.impl_rows.proofs.FindRows.{finds_impl}
-use borrow.Author.Rules.{rules}
 use Rattle.impl_rows.proofs.find.find_implementation.Goals as goal
 
 pub returns : goal.returns

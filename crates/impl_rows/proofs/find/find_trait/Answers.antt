@@ -1,5 +1,4 @@
 use Rattle.impl_rows.proofs.FindRows.{finds_trait}
-use borrow.Author.Rules.{rules}
 use Rattle.impl_rows.proofs.find.find_trait.Goals as goal
 
 pub returns : goal.returns

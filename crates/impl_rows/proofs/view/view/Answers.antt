@@ -1,11 +1,9 @@
 use borrow.Author.Rules.{rules}
 use Prim.Native.Nat.{◌-◌}
-use mathlib.Core.Path.{◌≡◌, ◌∙◌}
+use mathlib.Core.Path.{◌∙◌}
 use native.Mathlib.Omega.{arith}
-use lib.ListN.{length}
 use Rattle.image_words.proofs.Sections.{length_section}
-use Rattle.impl_rows.specs.Given.{Given}
-use Rattle.impl_rows.proofs.ViewRows.{Left, start, name_inside, goes, ended}
+use Rattle.impl_rows.proofs.ViewRows.{start, name_inside, goes, ended}
 use Rattle.impl_rows.proofs.view.view.Goals as goal
 
 pub loop-i-init : goal.loop-i-init

@@ -1,11 +1,8 @@
-use borrow.Author.Rules.{rules}
 use Prim.Native.Nat.{◌-◌}
-use mathlib.Core.Path.{◌≡◌, ◌∙◌}
-use native.Mathlib.Omega.{arith}
+use mathlib.Core.Path.{◌≡◌}
 use lib.ListN.{length}
-use Rattle.image_words.proofs.Sections.{length_section}
 use Rattle.impl_rows.specs.Given.{Given}
-use Rattle.impl_rows.proofs.ViewRows.{Left, start, name_inside, goes, ended}
+use Rattle.impl_rows.proofs.ViewRows.{Left}
 use Rattle.impl_rows.proofs.view.view.Given as goal
 
 abbrev pub invariant-loop-i : goal.invariant-loop-i

@@ -1,5 +1,4 @@
 -- `infer_result::inferred::ended` meets its contract. Assumes nothing.
-use borrow.Author.Rules.{rules}
 use Rattle.infer_result.proofs.Steps.{says_same, says_other, says_free}
 use Rattle.infer_result.proofs.inferred.ended.Goals as goal
 

@@ -1,5 +1,4 @@
 -- `infer_result::operators::end_binary` meets its contract. Assumes nothing.
-use borrow.Author.Rules.{rules}
 use mathlib.Core.Path.{sym, ◌∙◌}
 use Rattle.infer_result.proofs.Steps.{says_≡}
 use Rattle.infer_result.proofs.OperatorsLaws.{binary_takes, binary_refuses}

@@ -1,5 +1,4 @@
 -- `infer_result::operators::operand_allowed` meets its contract. Assumes nothing.
-use borrow.Author.Rules.{rules}
 use mathlib.Core.Path.{sym, ◌∙◌}
 use Rattle.infer_result.proofs.OperatorsLaws.{allowed_equality, allowed_numeric}
 use Rattle.infer_result.proofs.operators.operand_allowed.Goals as goal

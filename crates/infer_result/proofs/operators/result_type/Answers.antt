@@ -1,7 +1,6 @@
 -- `infer_result::operators::result_type` meets its contract. Assumes nothing.
-use borrow.Author.Rules.{rules}
 use lib.Dec.{lit<}
-use borrow.Author.Tests.{lt-ltb, le-ltb}
+use borrow.Author.Tests.{le-ltb}
 use Rattle.codes.proofs.Codes.{primitive_in}
 use Rattle.type_words.proofs.Trees.{plain_holds}
 use Rattle.infer_result.proofs.operators.result_type.Goals as goal

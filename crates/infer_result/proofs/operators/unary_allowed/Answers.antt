@@ -1,5 +1,4 @@
 -- `infer_result::operators::unary_allowed` meets its contract. Assumes nothing.
-use borrow.Author.Rules.{rules}
 use mathlib.Core.Path.{sym, ◌∙◌}
 use lib.Dec.{lit<}
 use borrow.Author.Tests.{eq-eqb, ne_eqb}

@@ -2,7 +2,6 @@
 use mathlib.Core.Path.{sym}
 use mathlib.Core.List.{[]}
 use native.Mathlib.Omega.{arith}
-use borrow.Author.Rules.{rules}
 use Rattle.lines.proofs.Tells.{tells_then, tells_same}
 use Rattle.lines.proofs.Lines.{refused_lines, accepted_lines}
 use Rattle.lines.proofs.answer.put_answer.Goals as goal

@@ -1,5 +1,4 @@
 -- `lines::answer::put_fields` meets its contract: five numbers, one behind the other. Assumes nothing.
-use borrow.Author.Rules.{rules}
 use Rattle.lines.specs.Lines.{line_text}
 use Rattle.lines.proofs.Tells.{tells_inside, tells_then}
 use Rattle.lines.proofs.answer.put_fields.Goals as goal

@@ -1,11 +1,11 @@
 -- `lines::answer::put_words` meets its contract: what is left of the words decides. Assumes nothing.
-use Prim.Native.Nat.{◌-◌, ◌<◌, ◌≤◌}
-use mathlib.Core.Path.{◌≡◌, refl, sym, ◌∙◌}
+use Prim.Native.Nat.{◌-◌, ◌<◌}
+use mathlib.Core.Path.{sym, ◌∙◌}
 use native.Mathlib.Omega.{arith}
 use lib.ListN.{length}
 use borrow.Author.Rules.{rules}
 use Rattle.lines.proofs.Tells.{tells_length, tells_inside}
-use Rattle.lines.proofs.Lines.{first_words, first_count, first_word, Left, left_more, left_none}
+use Rattle.lines.proofs.Lines.{first_words, first_count, first_word, left_more, left_none}
 use Rattle.lines.proofs.answer.put_words.Goals as goal
 
 pub loop-i-preserved : goal.loop-i-preserved

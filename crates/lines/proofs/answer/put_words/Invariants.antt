@@ -1,11 +1,8 @@
 -- `lines::answer::put_words` meets its contract: what is left of the words decides. Assumes nothing.
-use Prim.Native.Nat.{◌-◌, ◌<◌, ◌≤◌}
-use mathlib.Core.Path.{◌≡◌, refl, sym, ◌∙◌}
-use native.Mathlib.Omega.{arith}
+use Prim.Native.Nat.{◌-◌, ◌≤◌}
+use mathlib.Core.Path.{◌≡◌}
 use lib.ListN.{length}
-use borrow.Author.Rules.{rules}
-use Rattle.lines.proofs.Tells.{tells_length, tells_inside}
-use Rattle.lines.proofs.Lines.{first_words, first_count, first_word, Left, left_more, left_none}
+use Rattle.lines.proofs.Lines.{first_words, Left}
 use Rattle.lines.proofs.answer.put_words.Given as goal
 
 abbrev pub invariant-loop-i : goal.invariant-loop-i

@@ -1,9 +1,9 @@
 -- `lines::text::put_bytes` meets its contract. Assumes nothing.
-use Prim.Native.Nat.{ℕ, ◌+◌, ◌-◌, ◌≤◌}
+use Prim.Native.Nat.{ℕ, ◌+◌, ◌-◌}
 use mathlib.Core.Path.{◌≡◌, refl, ap, ◌∙◌}
 use mathlib.Core.List.{List}
 use native.Mathlib.Omega.{arith}
-use lib.ListN.{length, take, get_or, set, length-set}
+use lib.ListN.{take, get_or, set, length-set}
 use borrow.Author.Rules.{rules}
 use Rattle.lines.specs.Text.{overlay}
 use Rattle.lines.proofs.Tells.{overlay_more, tells_cut}

@@ -1,7 +1,6 @@
 -- `lines::text::put_decimal` meets its contract. Assumes nothing.
 use mathlib.Core.Path.{ap, ◌∙◌}
 use native.Mathlib.Omega.{arith}
-use borrow.Author.Rules.{rules}
 use Rattle.lines.specs.Decimal.{decimal}
 use Rattle.lines.proofs.Decimal.{decimal_of}
 use Rattle.lines.proofs.Tells.{tells_same}

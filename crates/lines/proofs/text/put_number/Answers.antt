@@ -1,5 +1,4 @@
 -- `lines::text::put_number` meets its contract. Assumes nothing.
-use borrow.Author.Rules.{rules}
 use Rattle.lines.proofs.Tells.{tells_then}
 use Rattle.lines.proofs.text.put_number.Goals as goal
 

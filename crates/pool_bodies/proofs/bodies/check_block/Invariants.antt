@@ -1,12 +1,9 @@
 -- `pool_bodies::bodies::check_block` meets its contract: each turn leaves one statement less, and its Let is counted.
-use borrow.Author.Rules.{rules}
 use Prim.Native.Nat.{◌-◌, ◌≤◌}
-use native.Mathlib.Omega.{arith}
-use borrow.Author.Tests.{not-true, not-false}
 use Rattle.rules.specs.ReadBodies.{block}
 use Rattle.image_words.specs.Verdict.{section_words}
 use Rattle.image_words.proofs.Verdict.{Left}
-use Rattle.pool_bodies.proofs.Blocks.{rest, block_stop, block_starts, block_turn, block_turn_stop, block_full, block_done}
+use Rattle.pool_bodies.proofs.Blocks.{rest}
 use Rattle.pool_bodies.proofs.bodies.check_block.Given as goal
 
 abbrev pub invariant-loop-i : goal.invariant-loop-i

@@ -1,7 +1,6 @@
 -- `pool_bodies::bodies::check_body` meets its contract: the answers follow the reader's steps.
 use borrow.Author.Tests.{not-true, not-false}
 use Rattle.pool_bodies.proofs.Blocks.{body_stop, body_external, body_block}
-use borrow.Author.Rules.{rules}
 use Rattle.pool_bodies.proofs.bodies.check_body.Goals as goal
 
 pub returns-then-not-f : goal.returns-then-not-f

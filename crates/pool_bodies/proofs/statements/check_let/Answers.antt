@@ -2,7 +2,6 @@
 use borrow.Author.Tests.{not-true, not-false}
 use Rattle.rules.specs.ReadBodies.{statement_node}
 use Rattle.image_words.proofs.Says.{then, stop, last}
-use borrow.Author.Rules.{rules}
 use Rattle.pool_bodies.proofs.statements.check_let.Goals as goal
 
 pub returns-then-not-a : goal.returns-then-not-a

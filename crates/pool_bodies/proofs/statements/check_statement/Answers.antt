@@ -4,7 +4,6 @@ use borrow.Author.Tests.{not-true, not-false}
 use Rattle.rules.specs.ReadBodies.{statement_node}
 use Rattle.image_words.proofs.Says.{then, stop, last, failed}
 use Rattle.pool_bodies.proofs.StatementLaws.{statement_stop, statement_then}
-use borrow.Author.Rules.{rules}
 use Rattle.pool_bodies.proofs.statements.check_statement.Goals as goal
 
 pub returns-then-not-a : goal.returns-then-not-a

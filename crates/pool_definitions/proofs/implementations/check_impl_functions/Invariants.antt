@@ -1,12 +1,9 @@
 -- `pool_definitions::implementations::check_impl_functions` meets its contract: each turn leaves one reading less.
-use borrow.Author.Rules.{rules}
 use Prim.Native.Nat.{◌-◌}
-use borrow.Author.Tests.{not-true, not-false}
 use Rattle.rules.specs.Reader.{many, times}
 use Rattle.rules.specs.ReadDefinitions.{impl_function}
 use Rattle.image_words.specs.Verdict.{section_words}
 use Rattle.image_words.proofs.Verdict.{Left}
-use Rattle.image_words.proofs.Loops.{many_then, many_stop, turn, turn_stop, turn_done}
 use Rattle.pool_definitions.proofs.implementations.check_impl_functions.Statement.{
   statement,
 }

@@ -2,7 +2,6 @@
 use borrow.Author.Tests.{not-true, not-false}
 use Rattle.rules.specs.ReadDefinitions.{implementation}
 use Rattle.image_words.proofs.Says.{then, stop, last}
-use borrow.Author.Rules.{rules}
 use Rattle.pool_definitions.proofs.implementations.check_implementation.Statement.{
   statement,
 }

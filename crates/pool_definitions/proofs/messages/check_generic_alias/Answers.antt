@@ -2,7 +2,6 @@
 use borrow.Author.Tests.{not-true, not-false}
 use Rattle.rules.specs.ReadDefinitions.{generic_alias}
 use Rattle.image_words.proofs.Says.{then, stop, last}
-use borrow.Author.Rules.{rules}
 use Rattle.pool_definitions.proofs.messages.check_generic_alias.Goals as goal
 
 pub returns-then-not-p : goal.returns-then-not-p

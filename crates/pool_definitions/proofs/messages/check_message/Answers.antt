@@ -1,7 +1,6 @@
 -- `pool_definitions::messages::check_message` meets its contract: the answers follow the reader's steps.
 use Rattle.rules.specs.ReadDefinitions.{message}
 use Rattle.image_words.proofs.Says.{last}
-use borrow.Author.Rules.{rules}
 use Rattle.pool_definitions.proofs.messages.check_message.Goals as goal
 
 pub returns : goal.returns

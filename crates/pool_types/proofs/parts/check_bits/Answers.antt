@@ -1,7 +1,6 @@
 -- `pool_types::parts::check_bits` meets its contract: the answers follow the reader's steps.
 use Rattle.rules.specs.ReadTypes.{bits_inline}
 use Rattle.image_words.proofs.Says.{last}
-use borrow.Author.Rules.{rules}
 use Rattle.pool_types.proofs.parts.check_bits.Goals as goal
 
 pub returns : goal.returns

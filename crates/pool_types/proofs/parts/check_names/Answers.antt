@@ -1,11 +1,6 @@
 -- `pool_types::parts::check_names` meets its contract: each turn leaves one reading less.
-use borrow.Author.Rules.{rules}
 use Prim.Native.Nat.{◌-◌}
 use borrow.Author.Tests.{not-true, not-false}
-use Rattle.rules.specs.Reader.{many, times}
-use Rattle.rules.specs.ReadTypes.{name}
-use Rattle.image_words.specs.Verdict.{section_words}
-use Rattle.image_words.proofs.Verdict.{Left}
 use Rattle.image_words.proofs.Loops.{many_then, many_stop, turn, turn_stop, turn_done}
 use Rattle.pool_types.proofs.parts.check_names.Goals as goal
 

@@ -2,7 +2,6 @@
 use borrow.Author.Tests.{not-true, not-false}
 use Rattle.rules.specs.ReadTypes.{sub_byte}
 use Rattle.image_words.proofs.Says.{then, stop, word_then, rule_then, rule_stop, given}
-use borrow.Author.Rules.{rules}
 use Rattle.pool_types.proofs.parts.check_sub.Goals as goal
 
 pub returns-then-not-s : goal.returns-then-not-s

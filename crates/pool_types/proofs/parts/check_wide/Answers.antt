@@ -2,7 +2,6 @@
 use borrow.Author.Tests.{not-true, not-false}
 use Rattle.rules.specs.ReadTypes.{wide}
 use Rattle.image_words.proofs.Says.{then, stop, last}
-use borrow.Author.Rules.{rules}
 use Rattle.pool_types.proofs.parts.check_wide.Goals as goal
 
 pub returns-then-not-low : goal.returns-then-not-low

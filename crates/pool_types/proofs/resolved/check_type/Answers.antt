@@ -3,7 +3,6 @@ use native.Mathlib.Omega.{arith}
 use borrow.Author.Tests.{not-true, not-false}
 use Rattle.rules.specs.ReadTypes.{resolved_type}
 use Rattle.image_words.proofs.Says.{sized_stop, sized_in, sized_over}
-use borrow.Author.Rules.{rules}
 use Rattle.pool_types.proofs.resolved.check_type.Goals as goal
 
 pub returns-then-not-c : goal.returns-then-not-c

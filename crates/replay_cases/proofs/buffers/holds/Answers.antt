@@ -1,9 +1,7 @@
-use Prim.Native.Nat.{◌-◌, ◌≤◌}
-use mathlib.Core.Path.{refl}
+use Prim.Native.Nat.{◌-◌}
 use native.Mathlib.Omega.{arith}
-use lib.ListN.{length}
 use borrow.Author.Rules.{rules}
-use Rattle.replay_cases.proofs.Filled.{Left, too_short, apart_before, apart_behind, more_before, more_behind, all_met}
+use Rattle.replay_cases.proofs.Filled.{too_short, apart_before, apart_behind, more_before, more_behind, all_met}
 use Rattle.replay_cases.proofs.buffers.holds.Goals as goal
 
 pub returns-then-buffer-stored : goal.returns-then-buffer-stored

@@ -1,9 +1,6 @@
 use Prim.Native.Nat.{◌-◌, ◌≤◌}
-use mathlib.Core.Path.{refl}
-use native.Mathlib.Omega.{arith}
 use lib.ListN.{length}
-use borrow.Author.Rules.{rules}
-use Rattle.replay_cases.proofs.Filled.{Left, too_short, apart_before, apart_behind, more_before, more_behind, all_met}
+use Rattle.replay_cases.proofs.Filled.{Left}
 use Rattle.replay_cases.proofs.buffers.holds.Given as goal
 
 abbrev pub invariant-loop-i : goal.invariant-loop-i

@@ -1,4 +1,3 @@
-use borrow.Author.Rules.{rules}
 use Rattle.replay_cases.proofs.Cases.{ends_inside, ends_behind}
 use Rattle.replay_cases.proofs.case.read.Goals as goal
 

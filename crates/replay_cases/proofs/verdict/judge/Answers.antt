@@ -1,5 +1,4 @@
 -- `replay_cases::verdict::judge` meets its contract. Assumes nothing.
-use borrow.Author.Rules.{rules}
 use native.Mathlib.Omega.{arith}
 use Rattle.replay_cases.proofs.Judges.{judges}
 use Rattle.replay_cases.proofs.verdict.judge.Goals as goal

@@ -1,5 +1,4 @@
 -- `replay_told::case::by_name` meets its contract. Assumes nothing.
-use borrow.Author.Rules.{rules}
 use borrow.Author.Tests.{not-true, not-false}
 use mathlib.Core.Path.{sym, ◌∙◌}
 use Rattle.lines.proofs.Tells.{tells_none, tells_then}

@@ -1,5 +1,4 @@
 -- `replay_told::case::difference` meets its contract. Assumes nothing.
-use borrow.Author.Rules.{rules}
 use mathlib.Core.Path.{sym, ◌∙◌}
 use Rattle.lines.proofs.Tells.{tells_none}
 use Rattle.replay_told.proofs.case.difference.Goals as goal

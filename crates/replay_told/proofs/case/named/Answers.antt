@@ -1,5 +1,4 @@
 -- `replay_told::case::named` meets its contract. Assumes nothing.
-use borrow.Author.Rules.{rules}
 use Rattle.replay_told.specs.Told.{is_named}
 use Rattle.replay_told.proofs.case.named.Goals as goal
 

@@ -1,5 +1,4 @@
 -- `replay_told::case::part` meets its contract. Assumes nothing.
-use borrow.Author.Rules.{rules}
 use Rattle.lines.proofs.Tells.{tells_none}
 use Rattle.replay_told.proofs.case.part.Goals as goal
 

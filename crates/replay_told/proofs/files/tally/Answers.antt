@@ -1,5 +1,4 @@
 -- `replay_told::files::tally` meets its contract. Assumes nothing.
-use borrow.Author.Rules.{rules}
 use Rattle.lines.proofs.Tells.{tells_then}
 use Rattle.replay_told.proofs.files.tally.Goals as goal
 

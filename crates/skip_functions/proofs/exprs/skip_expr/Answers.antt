@@ -1,5 +1,4 @@
 -- `skip_functions::exprs::skip_expr` meets its contract. Assumes nothing.
-use borrow.Author.Rules.{rules}
 use Rattle.skip_types.proofs.Pending.{one_left}
 use Rattle.skip_functions.proofs.exprs.skip_expr.Goals as goal
 

@@ -1,13 +1,9 @@
 -- `skip_functions::exprs::skip_exprs` meets its contract. The loop's invariant: what is pending ends where the whole does. Assumes nothing.
-use borrow.Author.Rules.{rules}
-use Prim.Native.Nat.{ℕ, ◌-◌}
+use Prim.Native.Nat.{◌-◌}
 use mathlib.Core.Path.{ap, ◌∙◌}
 use native.Mathlib.Omega.{arith}
 use Rattle.rules.specs.Kinds.{expr_kind}
-use Rattle.image_words.specs.Verdict.{section_words}
 use Rattle.image_words.proofs.Sections.{length_section}
-use Rattle.pool_expressions.specs.ExprAt.{ExprAt}
-use Rattle.skip_types.specs.Pending.{Pending}
 use Rattle.skip_types.proofs.Pending.{ended, of_first, turned, pending_fits}
 use Rattle.skip_functions.proofs.ExprNodes.{expr_parts, expr_inside}
 use Rattle.skip_functions.proofs.exprs.skip_exprs.Goals as goal

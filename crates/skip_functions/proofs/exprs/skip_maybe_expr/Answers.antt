@@ -1,10 +1,9 @@
 -- `skip_functions::exprs::skip_maybe_expr` meets its contract. Assumes nothing.
-use borrow.Author.Rules.{rules}
 use native.Mathlib.Omega.{arith}
 use Rattle.image_words.proofs.Sections.{length_section}
 use Rattle.image_words.specs.Verdict.{section_words}
 use Rattle.pool_expressions.specs.ExprAt.{ExprStands}
-use Rattle.skip_types.proofs.Maybe.{maybe_inside, maybe_none, maybe_some}
+use Rattle.skip_types.proofs.Maybe.{maybe_inside}
 use Rattle.skip_functions.proofs.exprs.skip_maybe_expr.Goals as goal
 
 pub returns-then-pool-at : goal.returns-then-pool-at

@@ -1,5 +1,4 @@
 -- `skip_functions::functions::skip_function` meets its contract. Assumes nothing.
-use borrow.Author.Rules.{rules}
 use native.Mathlib.Omega.{arith}
 use Rattle.image_words.proofs.Sections.{length_section}
 use Rattle.skip_functions.proofs.StatementsLaws.{body_from}

@@ -1,14 +1,9 @@
 -- `skip_functions::functions::skip_named` meets its contract. The loop's invariant: what is pending ends where the whole does. Assumes nothing.
-use borrow.Author.Rules.{rules}
 use Prim.Native.Nat.{ℕ}
-use mathlib.Core.Path.{sym}
-use native.Mathlib.Omega.{arith}
 use Rattle.image_words.specs.Verdict.{section_words}
-use Rattle.image_words.proofs.Sections.{length_section}
 use Rattle.pool_types.specs.ParamAt.{ParamAt}
 use Rattle.pool_type_exprs.specs.TypeExprAt.{TypeExprAt}
 use Rattle.skip_types.specs.Pending.{Pending}
-use Rattle.skip_types.proofs.Pending.{none_left, ended, of_first, turned}
 use Rattle.skip_functions.proofs.functions.skip_named.Given as goal
 
 abbrev pub invariant-loop-pending : goal.invariant-loop-pending

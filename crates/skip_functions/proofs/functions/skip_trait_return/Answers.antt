@@ -1,8 +1,7 @@
 -- `skip_functions::functions::skip_trait_return` meets its contract. Assumes nothing.
-use borrow.Author.Rules.{rules}
 use native.Mathlib.Omega.{arith}
 use Rattle.image_words.proofs.Sections.{length_section}
-use Rattle.skip_functions.proofs.FunctionsLaws.{return_inside, return_none, return_some}
+use Rattle.skip_functions.proofs.FunctionsLaws.{return_inside}
 use Rattle.skip_functions.proofs.functions.skip_trait_return.Goals as goal
 
 pub returns-then-pool-at : goal.returns-then-pool-at

@@ -1,8 +1,7 @@
 -- `skip_functions::statements::skip_body` meets its contract. Assumes nothing.
-use borrow.Author.Rules.{rules}
 use native.Mathlib.Omega.{arith}
 use Rattle.image_words.proofs.Sections.{length_section}
-use Rattle.skip_functions.proofs.StatementsLaws.{body_inside, body_none, body_some}
+use Rattle.skip_functions.proofs.StatementsLaws.{body_inside, body_some}
 use Rattle.skip_functions.proofs.statements.skip_body.Goals as goal
 
 pub returns-then-pool-at : goal.returns-then-pool-at

@@ -1,5 +1,4 @@
 -- `skip_functions::statements::skip_statement` meets its contract: an arm for each kind. Assumes nothing.
-use borrow.Author.Rules.{rules}
 use native.Mathlib.Omega.{arith}
 use Rattle.image_words.proofs.Sections.{length_section}
 use Rattle.skip_types.proofs.Pending.{two_left}

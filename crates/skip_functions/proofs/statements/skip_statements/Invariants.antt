@@ -1,12 +1,8 @@
 -- `skip_functions::statements::skip_statements` meets its contract. The loop's invariant: what is pending ends where the whole does. Assumes nothing.
-use borrow.Author.Rules.{rules}
 use Prim.Native.Nat.{ℕ}
-use mathlib.Core.Path.{sym}
-use native.Mathlib.Omega.{arith}
 use Rattle.image_words.specs.Verdict.{section_words}
 use Rattle.pool_bodies.specs.StatementAt.{StatementAt}
 use Rattle.skip_types.specs.Pending.{Pending}
-use Rattle.skip_types.proofs.Pending.{none_left, ended, turned}
 use Rattle.skip_functions.proofs.statements.skip_statements.Given as goal
 
 abbrev pub invariant-loop-pending : goal.invariant-loop-pending

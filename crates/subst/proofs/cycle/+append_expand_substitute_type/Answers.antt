@@ -1,6 +1,6 @@
 -- The resolver, what is put behind words and the expander, which call each other: the way of each kind of node.
 use borrow.Author.Rules.{rules}
-use Prim.Native.Nat.{ℕ, ◌+◌, ◌<◌, ◌-◌}
+use Prim.Native.Nat.{ℕ, ◌-◌}
 use native.Mathlib.Omega.{arith}
 use mathlib.Core.Path.{refl, subst₂, ◌∙◌, subst}
 use mathlib.Core.Bool.{false}

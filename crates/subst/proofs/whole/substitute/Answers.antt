@@ -1,7 +1,6 @@
 -- `subst::whole::substitute` meets its contract. Assumes nothing.
 use mathlib.Core.Path.{refl}
 use native.Mathlib.Omega.{arith}
-use borrow.Author.Rules.{rules}
 use Rattle.subst.proofs.Bounds.{answers}
 use Rattle.subst.proofs.whole.substitute.Goals as goal
 

@@ -1,7 +1,6 @@
 -- `subst_names::generic::lookup_alias` meets its contract. Assumes nothing.
 use mathlib.Core.Path.{sym, subst, ◌∙◌}
 use native.Mathlib.Omega.{arith}
-use borrow.Author.Rules.{rules}
 use Rattle.image_layout.specs.Open.{pool_words}
 use Rattle.subst_names.specs.Aliases.{IsAlias}
 use Rattle.subst_names.proofs.GenericLaws.{alias_at, generic_here, none_here}

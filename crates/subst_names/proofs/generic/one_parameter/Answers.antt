@@ -1,6 +1,5 @@
 -- `subst_names::generic::one_parameter` meets its contract. Assumes nothing.
 use mathlib.Core.Path.{refl, sym, subst, ◌∙◌}
-use borrow.Author.Rules.{rules}
 use Rattle.image_layout.specs.Open.{pool_words}
 use Rattle.subst_names.specs.Aliases.{IsAlias}
 use Rattle.subst_names.proofs.GenericLaws.{not_one, is_one}

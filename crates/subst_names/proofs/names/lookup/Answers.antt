@@ -2,7 +2,6 @@
 use mathlib.Core.Path.{sym, ap, subst, ◌∙◌}
 use mathlib.Core.Option.{Option}
 use Prim.Native.Nat.{ℕ}
-use borrow.Author.Rules.{rules}
 use Rattle.rules.specs.Words.{NONE}
 use Rattle.rules.specs.Options.{or}
 use Rattle.image_layout.specs.Open.{AliasStands, pool_words}

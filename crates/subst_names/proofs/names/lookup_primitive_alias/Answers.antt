@@ -4,7 +4,6 @@ use mathlib.Core.Option.{none, some}
 use Prim.Native.Nat.{ℕ}
 use native.Mathlib.Omega.{arith}
 use lib.ListN.{get_or}
-use borrow.Author.Rules.{rules}
 use Rattle.rules.specs.Syntax.{ResolvedType}
 use Rattle.rules.specs.Substitute.{primitive}
 use Rattle.image_layout.specs.Open.{AliasStands, pool_words}

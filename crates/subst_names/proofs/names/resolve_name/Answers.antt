@@ -1,6 +1,5 @@
 -- `subst_names::names::resolve_name` meets its contract. Assumes nothing.
 use mathlib.Core.Path.{sym, subst}
-use borrow.Author.Rules.{rules}
 use Rattle.rules.specs.Substitute.{find_param, lookup_primitive_alias}
 use Rattle.type_words.specs.Holds.{Holds}
 use Rattle.type_words.proofs.Trees.{named_holds}

@@ -1,7 +1,6 @@
 -- `subst_names::names::resolve_qualified` meets its contract. Assumes nothing.
 use mathlib.Core.Path.{sym, subst, ◌∙◌}
 use native.Mathlib.Omega.{arith}
-use borrow.Author.Rules.{rules}
 use Rattle.type_words.specs.Holds.{Holds}
 use Rattle.type_words.proofs.Trees.{named_holds}
 use Rattle.image_texts.specs.Rows.{qualified_text}

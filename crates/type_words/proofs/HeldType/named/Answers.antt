@@ -1,7 +1,6 @@
 -- `type_words::HeldType::named` meets its contract. Assumes nothing.
 use mathlib.Core.Path.{refl}
 use lib.Dec.{lit≤}
-use borrow.Author.Rules.{rules}
 use Rattle.type_words.proofs.Runs.{counted}
 use Rattle.type_words.proofs.HeldType.named.Goals as goal
 

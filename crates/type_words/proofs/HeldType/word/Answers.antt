@@ -1,8 +1,7 @@
 -- `type_words::HeldType::word` meets its contract. Assumes nothing.
 use native.Mathlib.Omega.{arith}
 use mathlib.Core.Path.{sym}
-use borrow.Author.Rules.{rules}
-use Rattle.type_words.proofs.Runs.{run_word, run_end}
+use Rattle.type_words.proofs.Runs.{run_word}
 use Rattle.type_words.proofs.HeldType.word.Goals as goal
 
 pub returns-then-i-n : goal.returns-then-i-n

@@ -1,11 +1,8 @@
 -- `type_words::lent::push_back` meets its contract. The loop's invariant: i words of the other run stand behind the n of this one. Assumes nothing.
 use Prim.Native.Nat.{ℕ, ◌+◌, ◌-◌, ◌≤◌}
-use native.Mathlib.Omega.{arith}
-use mathlib.Core.Path.{◌≡◌, ap, ◌∙◌}
+use mathlib.Core.Path.{◌≡◌}
 use mathlib.Core.List.{List, ◌++◌}
-use borrow.Author.Rules.{rules}
-use lib.ListN.{length, take, length-append, length-take, length-set}
-use Rattle.type_words.proofs.Runs.{run_take, counted, grown, not_grown, copied_none, copied_more}
+use lib.ListN.{length, take}
 use Rattle.type_words.specs.declared.HeldType.{HeldType}
 use Rattle.type_words.proofs.lent.push_back.Given as goal
 

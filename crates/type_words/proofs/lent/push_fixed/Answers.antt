@@ -1,6 +1,5 @@
 -- `type_words::lent::push_fixed` meets its contract: three words before the run, one after the other. Assumes nothing.
 use mathlib.Core.Bool.{false}
-use borrow.Author.Rules.{rules}
 use borrow.Author.Tests.{not-true, not-false}
 use Rattle.type_words.proofs.Runs.{grown_run, grows_behind, grows_under}
 use Rattle.type_words.proofs.lent.push_fixed.Goals as goal

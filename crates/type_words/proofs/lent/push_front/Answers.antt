@@ -2,11 +2,10 @@
 use Prim.Native.Nat.{ℕ, ◌+◌, ◌-◌, ◌≤◌, ◌<◌}
 use native.Mathlib.Omega.{arith}
 use native.Mathlib.Numerals.{add-one}
-use mathlib.Core.Path.{◌≡◌, refl, ◌∙◌}
+use mathlib.Core.Path.{◌≡◌, ◌∙◌}
 use mathlib.Core.List.{List, ◌∷◌}
-use lib.ListN.{length, take, get_or, length-take, length-set}
-use Rattle.type_words.proofs.Runs.{counted, grown, not_grown}
-use Rattle.type_words.proofs.Carried.{carried_front, carried_back, carried_on}
+use lib.ListN.{length, take, get_or}
+use Rattle.type_words.proofs.Runs.{counted, grown}
 use Rattle.type_words.proofs.lent.push_front.Goals as goal
 
 record Inv (word n : ℕ) (words₀ words : List ℕ) (carry i : ℕ) : Type 0 where

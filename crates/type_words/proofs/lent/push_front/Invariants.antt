@@ -1,12 +1,8 @@
 -- `type_words::lent::push_front` meets its contract. The loop's invariant: below i stand the new words, from i on the old ones, and the word between is carried. Assumes nothing.
 use Prim.Native.Nat.{ℕ, ◌+◌, ◌-◌, ◌≤◌, ◌<◌}
-use native.Mathlib.Omega.{arith}
-use native.Mathlib.Numerals.{add-one}
-use mathlib.Core.Path.{◌≡◌, refl, ◌∙◌}
+use mathlib.Core.Path.{◌≡◌}
 use mathlib.Core.List.{List, ◌∷◌}
-use lib.ListN.{length, take, get_or, length-take, length-set}
-use Rattle.type_words.proofs.Runs.{counted, grown, not_grown}
-use Rattle.type_words.proofs.Carried.{carried_front, carried_back, carried_on}
+use lib.ListN.{length, take, get_or}
 use Rattle.type_words.proofs.lent.push_front.Given as goal
 
 pub record Inv (word n : ℕ) (words₀ words : List ℕ) (carry i : ℕ) : Type 0 where

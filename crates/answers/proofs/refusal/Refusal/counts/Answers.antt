@@ -1,6 +1,5 @@
 use mathlib.Core.Path.{refl}
 use Rattle.answers.specs.Refusals.{detail_of, refusal_of}
-use borrow.Author.Rules.{rules}
 use Rattle.answers.proofs.refusal.Refusal.counts.Goals as goal
 
 pub returns : goal.returns

@@ -1,11 +1,9 @@
 -- `answers::refusal::Refusal::run` meets its contract: the words so far are the run's first.
 use Prim.Native.Nat.{◌+◌, ◌-◌, ◌≤◌}
-use native.Mathlib.Omega.{arith}
 use lib.ListN.{length}
-use borrow.Author.Rules.{rules}
 use Rattle.type_words.specs.Runs.{held_run}
 use Rattle.answers.specs.Refusals.{detail_of}
-use Rattle.answers.proofs.Details.{SoFar, run_start, run_room, run_more, run_end}
+use Rattle.answers.proofs.Details.{SoFar}
 use Rattle.answers.proofs.refusal.Refusal.run.Given as goal
 
 abbrev pub invariant-loop-i : goal.invariant-loop-i
