@@ -1,5 +1,5 @@
 // Reading to the end.
-ghost use Rattle.std.specs.Prelude.{IfOk};
+ghost use Rattle.std.specs.Prelude.{◌≡◌, length, IfOk};
 ghost use Rattle.io.specs.Counts.{IsPrefixLen};
 
 use std::fs;
@@ -13,9 +13,11 @@ pub struct Input {
     pub len: usize,
 }
 
-// Reads until the input ends or the bytes are full. A failed read is told apart from the end.
+// Reads until the input ends or the bytes are full. A failed read is the error, told apart from the end; what came before it
+// may stand in the bytes.
 pub fn read_to_end<R: Read>(input: &mut R, bytes: &mut [u8]) -> std::io::Result<usize>
-    ensures { IfOk result (λ n. IsPrefixLen n bytes.new) }
+    ensures came { IfOk result (λ n. IsPrefixLen n bytes.new) }
+    ensures kept { length bytes.new ≡ length bytes.old }
 {
     let mut n = 0;
     while n < bytes.len() {
