@@ -46,7 +46,7 @@ fn room() -> [u8; LINES_BYTES]
 // The call on the image in standard input, for its lowest implementation: answered, and its lines handed to one `write_all`.
 pub fn run<R: Input + Print>(rt: &R, call: Call) -> std::io::Result<()> {
     let mut image = [0u8; INPUT_BYTES];
-    let len = crate::input::read_to_end(&mut rt.reader(), &mut image)?;
+    let len = crate::input::fill(&mut rt.reader(), &mut image)?;
     let mut text = room();
     let n = answer_lines(call, &image[..len], &mut text);
     std::io::writer(rt).write_all(&text[..n])

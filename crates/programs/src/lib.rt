@@ -1,4 +1,4 @@
-// What the programs share: bytes from a descriptor, a call on an image from standard input, its answer printed in lines.
+// What the programs share: bytes from a reader, a call on an image from standard input, its answer printed in lines.
 #![tactic(auto)]
 
 pub mod call;

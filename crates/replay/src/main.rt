@@ -44,9 +44,9 @@ fn told(ok: bool, cases: &[u8], labels: &[u8], text: &mut [u8]) -> usize
 
 fn main(rt: HostRuntime) -> std::io::Result<()> {
     let mut file = room();
-    let of_file = programs::input::read_file(&rt, "cases.bin", &mut file);
+    let of_file = programs::input::read_file(&rt, b"cases.bin", &mut file);
     let mut names = names_room();
-    let of_names = programs::input::read_file(&rt, "labels.txt", &mut names);
+    let of_names = programs::input::read_file(&rt, b"labels.txt", &mut names);
     let n = of_file.len;
     let m = of_names.len;
     let mut text = text_room();

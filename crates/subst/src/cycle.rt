@@ -7,6 +7,7 @@ ghost use Rattle.std.specs.Prelude.{◌≤◌, ◌≡◌, length};
 ghost use Rattle.image_layout.specs.Rows.{Cut};
 ghost use Rattle.subst_leaves.specs.Says.{Keeps};
 ghost use Rattle.subst_leaves.specs.Nodes.{Substitutes};
+ghost use Rattle.subst_parts.specs.Parts.{ResolvesWhole};
 ghost use Rattle.subst.specs.Lent.{Appends, Expands};
 
 use image_layout::Layout;
@@ -30,7 +31,7 @@ pub struct End {
 
 // The expression at `at`, its words behind the first n. Of a node of two parts the code and the first part come first,
 // and it goes on with the second.
-#[cycle(append_expand_substitute_type)]
+#[cycle(append_expand_resolve)]
 fn append(
     image: &[u8],
     l: Layout,
@@ -47,7 +48,8 @@ fn append(
     let start = start_behind(node, at, left, n);
     let pool = l.pool;
     put_at(words, n, image_words::section_word(image, pool, at));
-    let b = substitute_type(image, l, start.at, start.left, params);
+    let mut b = nothing();
+    resolve(image, l, start.at, start.left, params, &mut b);
     let g = push_back(words, start.len, b.ty);
     let ok = b.ok & g.ok;
     if start.again {
@@ -69,7 +71,7 @@ fn append(
 // An alias whose argument is the first n words: its target in their place, with only its own parameter in view. A target
 // that is an alias again is expanded in turn: its argument first. The place behind an alias is the one behind its argument,
 // which the caller has.
-#[cycle(append_expand_substitute_type)]
+#[cycle(append_expand_resolve)]
 fn expand(
     image: &[u8],
     l: Layout,
@@ -94,7 +96,8 @@ fn expand(
     let target = alias.target;
     let node = node_at(image, l, target, left);
     let start = start_of(node, target, left);
-    let b = substitute_type(image, l, start.at, start.left, view);
+    let mut b = nothing();
+    resolve(image, l, start.at, start.left, view, &mut b);
     let ty = b.ty;
     let len = ty.len;
     let own_words = ty.words;
@@ -114,45 +117,39 @@ fn expand(
     }
 }
 
-#[cycle(append_expand_substitute_type)]
-pub fn substitute_type(image: &[u8], l: Layout, at: usize, left: u32, params: &[u32]) -> Resolved
+// What the expression at `at` resolves to, in a lent place: so a frame of the cycle has no place for it.
+#[cycle(append_expand_resolve)]
+fn resolve(image: &[u8], l: Layout, at: usize, left: u32, params: &[u32], a: &mut Resolved)
     requires { Cut image.now l }
-    ensures { Keeps left result (Substitutes image.now l at left params.now result) }
+    ensures keeps { Keeps left a.new (Substitutes image.now l at left params.now a.new) }
+    ensures wide { length a.new.ty.words ≡ 64 }
 {
     let node = node_at(image, l, at, left);
     let first = node.first;
-    let mut a = resolve_whole(image, l, at, left, params);
     if first == 0 {
-        return a;
-    } else {
-        a = substitute_type(image, l, first, left - 1, params);
+        whole_into(image, l, at, left, params, a);
+        return;
     }
+    resolve(image, l, first, left - 1, params, a);
     if !a.ok {
-        return a;
+        return;
     }
     let pool = l.pool;
     let next = a.next;
     let rest = a.left;
     let n = a.ty.len;
-    let mut e = End {
-        ok: false,
-        poison: false,
-        next,
-        left: rest,
-        len: n,
-    };
     let parts = node.parts;
     match parts {
         Parts::Whole => {
             a.ok = false;
-            return a;
+            return;
         }
         Parts::One => {
             let code = image_words::section_word(image, pool, at);
             let g = push_front(code, &mut a.ty.words, n);
             a.ok = g.ok;
             a.ty.len = g.len;
-            return a;
+            return;
         }
         Parts::Fixed => {
             let low = image_words::section_word(image, pool, at + 1);
@@ -160,31 +157,63 @@ pub fn substitute_type(image: &[u8], l: Layout, at: usize, left: u32, params: &[
             let g = push_fixed(low, high, &mut a.ty.words, n);
             a.ok = g.ok;
             a.ty.len = g.len;
-            return a;
+            return;
         }
         Parts::Two => {
             let code = image_words::section_word(image, pool, at);
             let g = push_front(code, &mut a.ty.words, n);
             if !g.ok {
                 a.ok = false;
-                return a;
+                return;
             }
-            e = append(image, l, next, rest, params, &mut a.ty.words, g.len);
+            let e = append(image, l, next, rest, params, &mut a.ty.words, g.len);
             a.ok = e.ok;
             a.next = e.next;
             a.left = e.left;
             a.ty.len = e.len;
             a.ty.poison = a.ty.poison | e.poison;
-            return a;
+            return;
         }
         Parts::Alias => {
             let poison = a.ty.poison;
-            e = expand(image, l, node.alias, rest, &mut a.ty.words, n, poison);
+            let e = expand(image, l, node.alias, rest, &mut a.ty.words, n, poison);
             a.ok = e.ok;
             a.left = e.left;
             a.ty.len = e.len;
             a.ty.poison = e.poison;
-            return a;
+            return;
         }
     }
+}
+
+// A node that is whole, in the lent place. A function of its own, so that its answer's place is in no frame of the cycle.
+fn whole_into(image: &[u8], l: Layout, at: usize, left: u32, params: &[u32], a: &mut Resolved)
+    requires { Cut image.now l }
+    ensures keeps { Keeps left a.new (ResolvesWhole image.now l at left params.now a.new) }
+    ensures wide { length a.new.ty.words ≡ 64 }
+{
+    *a = resolve_whole(image, l, at, left, params);
+}
+
+// A place for what comes of an expression.
+fn nothing() -> Resolved {
+    Resolved {
+        ok: false,
+        next: 0,
+        left: 0,
+        ty: HeldType {
+            words: [0u32; TYPE_WORDS],
+            len: 0,
+            poison: false,
+        },
+    }
+}
+
+pub fn substitute_type(image: &[u8], l: Layout, at: usize, left: u32, params: &[u32]) -> Resolved
+    requires { Cut image.now l }
+    ensures { Keeps left result (Substitutes image.now l at left params.now result) }
+{
+    let mut a = nothing();
+    resolve(image, l, at, left, params, &mut a);
+    a
 }

@@ -1,6 +1,6 @@
 -- So many bytes came, and they are inside.
 use Rattle.std.proofs.Common.{length, ◌-◌, ◌≤◌}
-use Rattle.programs.proofs.input.read_to_end.Given as goal
+use Rattle.programs.proofs.input.fill.Given as goal
 
 abbrev pub invariant-loop-n : goal.invariant-loop-n
 invariant-loop-n g l = l.n ≤ length l.bytes

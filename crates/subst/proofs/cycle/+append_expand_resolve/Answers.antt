@@ -10,14 +10,14 @@ use Rattle.subst.proofs.Arms.{as_parts, begins_two, begins_as_it_is, behind_left
 use mathlib.Core.List.{[], ◌∷◌}
 use Rattle.subst.proofs.Generic.{one_view}
 use borrow.Author.Tests.{not-true, not-false}
-use Rattle.subst.proofs.cycle.+append_expand_substitute_type.Goals as goal
+use Rattle.subst.proofs.cycle.+append_expand_resolve.Goals as goal
 
 pub append-start_behind-start-requires : goal.append-start_behind-start-requires
 append-start_behind-start-requires t c = let a = c.args in
     λ e. (as_parts a.image.now a.l a.at a.left c.node_at-node.result c.node_at-node.ensures Parts.Two e).2.0
 
-pub append-substitute_type-b-requires : goal.append-substitute_type-b-requires
-append-substitute_type-b-requires t c = (omega (arith, c.decreases, behind_left c.node_at-node.result c.args.at c.args.left c.args.n c.start_behind-start.result c.start_behind-start.ensures), c.requires.0)
+pub append-resolve-requires : goal.append-resolve-requires
+append-resolve-requires t c = (omega (arith, c.decreases, behind_left c.node_at-node.result c.args.at c.args.left c.args.n c.start_behind-start.result c.start_behind-start.ensures), c.requires.0)
 
 pub append-push_back-g-requires : goal.append-push_back-g-requires
 append-push_back-g-requires t c = (c.put_at.ensures.0, behind_len c.node_at-node.result c.args.at c.args.left c.args.n c.start_behind-start.result c.start_behind-start.ensures c.requires.2)
@@ -26,28 +26,28 @@ pub append-append-rest-requires : goal.append-append-rest-requires
 append-append-rest-requires t c = let a = c.args in
     let s = begins_two c.node_at-node.result a.at a.left a.n c.start_behind-start.result c.start_behind-start.ensures c.if-start.true in
     let k = as_parts a.image.now a.l a.at a.left c.node_at-node.result c.node_at-node.ensures Parts.Two s.0 in
-    (omega (arith, c.decreases, k.2.0, s.3, c.substitute_type-b.ensures.falls), (c.requires.0, c.push_back-g.ensures.1, ((c.push_back-g.ensures.0 false).runs (both c.substitute_type-b.result.ok c.push_back-g.result.ok c.if-ok.true).1).small))
+    (omega (arith, c.decreases, k.2.0, s.3, c.resolve.ensures.keeps.falls), (c.requires.0, c.push_back-g.ensures.1, ((c.push_back-g.ensures.0 false).runs (both c.resolve.new.a.ok c.push_back-g.result.ok c.if-ok.true).1).small))
 
 pub append-returns-then-ok : goal.append-returns-then-ok
 append-returns-then-ok t c = let a = c.args in
     let s = begins_two c.node_at-node.result a.at a.left a.n c.start_behind-start.result c.start_behind-start.ensures c.if-start.true in
     let k = as_parts a.image.now a.l a.at a.left c.node_at-node.result c.node_at-node.ensures Parts.Two s.0 in
-    let h = c.substitute_type-b.ensures in
-    let b = c.substitute_type-b.result in
+    let h = c.resolve.ensures.keeps in
+    let b = c.resolve.new.a in
     let q = subst₂ (λ (n m : ℕ). Substitutes a.image.now a.l n m a.params.now b) (s.2 ∙ k.0) s.3 h.means in
     let e = c.append-rest.ensures in
     record {
       falls = omega (arith, h.falls, s.3, e.falls);
       wide = e.wide;
-      means = appends_two a.image.now a.l a.at a.left a.params.now b k.2.0 k.3 q a.n _ c.section_word.ensures _ _ _ c.push_back-g.result (c.put_at.ensures.2 s.1) _ s.4 (c.push_back-g.ensures.0 false) (both c.substitute_type-b.result.ok c.push_back-g.result.ok c.if-ok.true).0 (both c.substitute_type-b.result.ok c.push_back-g.result.ok c.if-ok.true).1 (omega (arith, h.falls, s.3)) c.append-rest.result _ e.means;
+      means = appends_two a.image.now a.l a.at a.left a.params.now b k.2.0 k.3 q a.n _ c.section_word.ensures _ _ _ c.push_back-g.result (c.put_at.ensures.2 s.1) _ s.4 (c.push_back-g.ensures.0 false) (both c.resolve.new.a.ok c.push_back-g.result.ok c.if-ok.true).0 (both c.resolve.new.a.ok c.push_back-g.result.ok c.if-ok.true).1 (omega (arith, h.falls, s.3)) c.append-rest.result _ e.means;
     }
 
 pub append-returns-else-ok : goal.append-returns-else-ok
 append-returns-else-ok t c = let a = c.args in
     let s = begins_two c.node_at-node.result a.at a.left a.n c.start_behind-start.result c.start_behind-start.ensures c.if-start.true in
     let k = as_parts a.image.now a.l a.at a.left c.node_at-node.result c.node_at-node.ensures Parts.Two s.0 in
-    let h = c.substitute_type-b.ensures in
-    let b = c.substitute_type-b.result in
+    let h = c.resolve.ensures.keeps in
+    let b = c.resolve.new.a in
     let q = subst₂ (λ (n m : ℕ). Substitutes a.image.now a.l n m a.params.now b) (s.2 ∙ k.0) s.3 h.means in
     record {
       falls = omega (arith, h.falls, s.3);
@@ -58,8 +58,8 @@ append-returns-else-ok t c = let a = c.args in
 pub append-returns-else-start : goal.append-returns-else-start
 append-returns-else-start t c = let a = c.args in
     let s = begins_as_it_is c.node_at-node.result a.at a.left a.n c.start_behind-start.result c.start_behind-start.ensures c.if-start.false in
-    let h = c.substitute_type-b.ensures in
-    let b = c.substitute_type-b.result in
+    let h = c.resolve.ensures.keeps in
+    let b = c.resolve.new.a in
     let q = subst₂ (λ (n m : ℕ). Substitutes a.image.now a.l n m a.params.now b) s.0 s.1 h.means in
     record {
       falls = omega (arith, h.falls, s.1);
@@ -71,21 +71,21 @@ pub expand-start_of-start-requires : goal.expand-start_of-start-requires
 expand-start_of-start-requires t c = let a = c.args in
     λ e. (as_alias a.image.now a.l a.alias.target a.left c.node_at-node.result c.node_at-node.ensures e).2.0
 
-pub expand-substitute_type-b-requires : goal.expand-substitute_type-b-requires
-expand-substitute_type-b-requires t c = (omega (arith, c.decreases, start_left c.node_at-node.result c.args.alias.target c.args.left c.start_of-start.result c.start_of-start.ensures), c.requires.0)
+pub expand-resolve-requires : goal.expand-resolve-requires
+expand-resolve-requires t c = (omega (arith, c.decreases, start_left c.node_at-node.result c.args.alias.target c.args.left c.start_of-start.result c.start_of-start.ensures), c.requires.0)
 
 pub expand-expand-requires : goal.expand-expand-requires
 expand-expand-requires t c = let a = c.args in
     let s = c.start_of-start.ensures.0 c.if-again.true in
     let k = as_alias a.image.now a.l a.alias.target a.left c.node_at-node.result c.node_at-node.ensures c.if-again.true in
-    (omega (arith, c.decreases, k.2.0, s.1, c.substitute_type-b.ensures.falls), (c.requires.0, search (rules, c.substitute_type-b.type_inv)))
+    (omega (arith, c.decreases, k.2.0, s.1, c.resolve.ensures.keeps.falls), (c.requires.0, c.resolve.ensures.wide))
 
 pub expand-returns-then-b : goal.expand-returns-then-b
 expand-returns-then-b t c = let a = c.args in
     let s = c.start_of-start.ensures.0 c.if-again.true in
     let k = as_alias a.image.now a.l a.alias.target a.left c.node_at-node.result c.node_at-node.ensures c.if-again.true in
-    let h = c.substitute_type-b.ensures in
-    let b = c.substitute_type-b.result in
+    let h = c.resolve.ensures.keeps in
+    let b = c.resolve.new.a in
     let e = c.expand.ensures in
     let q = subst₂ (λ (n m : ℕ). Substitutes a.image.now a.l n m c.rows-view.result.now b) (s.0 ∙ k.0) s.1 h.means in (
       e.0,
@@ -106,13 +106,13 @@ pub expand-returns-else-b : goal.expand-returns-else-b
 expand-returns-else-b t c = let a = c.args in
     let s = c.start_of-start.ensures.0 c.if-again.true in
     let k = as_alias a.image.now a.l a.alias.target a.left c.node_at-node.result c.node_at-node.ensures c.if-again.true in
-    let h = c.substitute_type-b.ensures in
-    let b = c.substitute_type-b.result in
+    let h = c.resolve.ensures.keeps in
+    let b = c.resolve.new.a in
     let q = subst₂ (λ (n m : ℕ). Substitutes a.image.now a.l n m c.rows-view.result.now b) s.0 s.1 h.means in (
       refl,
       record {
         falls = omega (arith, h.falls, s.1);
-        wide = search (rules, c.substitute_type-b.type_inv);
+        wide = c.resolve.ensures.wide;
         means = λ σ o f le p x end y t z next.
             let v = one_view a.l.names.rows _ _ c.rows-view.result.now a.alias.param.0 p.name (record { words = a.words.now; len = a.n; poison = a.poison }) t c.write_row.ensures refl c.rows-view.ensures x z in
             says_at
@@ -124,48 +124,48 @@ expand-returns-else-b t c = let a = c.args in
 pub expand-returns-else-again : goal.expand-returns-else-again
 expand-returns-else-again t c = let a = c.args in
     let s = c.start_of-start.ensures.1 c.if-again.false in
-    let h = c.substitute_type-b.ensures in
-    let b = c.substitute_type-b.result in
+    let h = c.resolve.ensures.keeps in
+    let b = c.resolve.new.a in
     let q = subst₂ (λ (n m : ℕ). Substitutes a.image.now a.l n m c.rows-view.result.now b) s.0 s.1 h.means in (
       refl,
       record {
         falls = omega (arith, h.falls, s.1);
-        wide = search (rules, c.substitute_type-b.type_inv.1.1.1.1.1.0.1.1.0);
+        wide = c.resolve.ensures.wide;
         means = λ σ o f le p x end y t z next.
             let v = one_view a.l.names.rows _ _ c.rows-view.result.now a.alias.param.0 p.name (record { words = a.words.now; len = a.n; poison = a.poison }) t c.write_row.ensures refl c.rows-view.ensures x z in
             says_at (q σ o f le (record { name = p.name; ty = t } ∷ []) v p.ty end y) next _ refl refl refl refl;
       },
     )
 
-pub substitute_type-returns-then-first-eq0 : goal.substitute_type-returns-then-first-eq0
-substitute_type-returns-then-first-eq0 t c = let a = c.args in
-    let h = c.resolve_whole-a.ensures in
+pub resolve-returns-then-first-eq0-clause-keeps : goal.resolve-returns-then-first-eq0-clause-keeps
+resolve-returns-then-first-eq0-clause-keeps t c = let a = c.args in
+    let h = c.whole_into.ensures.keeps in
     record { falls = h.falls; means = h.means (is_whole a.image.now a.l a.at a.left c.node_at-node.result c.node_at-node.ensures c.if-first-eq0.true) }
 
-pub substitute_type-overflow_sub-left : goal.substitute_type-overflow_sub-left
-substitute_type-overflow_sub-left t c = let a = c.args in
+pub resolve-overflow_sub-left : goal.resolve-overflow_sub-left
+resolve-overflow_sub-left t c = let a = c.args in
     omega (arith, (is_read a.image.now a.l a.at a.left c.node_at-node.result c.node_at-node.ensures c.if-first-eq0.false).0)
 
-pub substitute_type-substitute_type-a-requires : goal.substitute_type-substitute_type-a-requires
-substitute_type-substitute_type-a-requires t c = let a = c.args in
+pub resolve-resolve-requires : goal.resolve-resolve-requires
+resolve-resolve-requires t c = let a = c.args in
     (omega (arith, c.decreases, (is_read a.image.now a.l a.at a.left c.node_at-node.result c.node_at-node.ensures c.if-first-eq0.false).0), c.requires)
 
-pub substitute_type-returns-then-not-a : goal.substitute_type-returns-then-not-a
-substitute_type-returns-then-not-a t c = let a = c.args in
-    let h = c.substitute_type-a.ensures in
-    record { falls = omega (arith, h.falls); means = stopped a.image.now a.l a.at a.left a.params.now c.substitute_type-a.result c.node_at-node.result c.node_at-node.ensures c.if-first-eq0.false h.means (not-true _ c.if-not-a.true-raw) }
+pub resolve-returns-then-not-a-clause-keeps : goal.resolve-returns-then-not-a-clause-keeps
+resolve-returns-then-not-a-clause-keeps t c = let a = c.args in
+    let h = c.resolve.ensures.keeps in
+    record { falls = omega (arith, h.falls); means = stopped a.image.now a.l a.at a.left a.params.now c.resolve.new.a c.node_at-node.result c.node_at-node.ensures c.if-first-eq0.false h.means (not-true _ c.if-not-a.true-raw) }
 
-pub substitute_type-returns-in-Whole : goal.substitute_type-returns-in-Whole
-substitute_type-returns-in-Whole t c = let a = c.args in
+pub resolve-returns-in-Whole-clause-keeps : goal.resolve-returns-in-Whole-clause-keeps
+resolve-returns-in-Whole-clause-keeps t c = let a = c.args in
     absurd (c.if-first-eq0.false (as_parts a.image.now a.l a.at a.left c.node_at-node.result c.node_at-node.ensures Parts.Whole c.in-Whole.is).0)
 
-pub substitute_type-push_front-g-requires : goal.substitute_type-push_front-g-requires
-substitute_type-push_front-g-requires t c = search (rules, c.substitute_type-a.type_inv)
+pub resolve-push_front-g-requires : goal.resolve-push_front-g-requires
+resolve-push_front-g-requires t c = c.resolve.ensures.wide
 
-pub substitute_type-returns-in-One : goal.substitute_type-returns-in-One
-substitute_type-returns-in-One t c = let a = c.args in
-    let h = c.substitute_type-a.ensures in
-    let b = c.substitute_type-a.result in
+pub resolve-returns-in-One-clause-keeps : goal.resolve-returns-in-One-clause-keeps
+resolve-returns-in-One-clause-keeps t c = let a = c.args in
+    let h = c.resolve.ensures.keeps in
+    let b = c.resolve.new.a in
     let k = as_parts a.image.now a.l a.at a.left c.node_at-node.result c.node_at-node.ensures Parts.One c.in-One.is in
     let q = subst (λ (n : ℕ). Substitutes a.image.now a.l n (a.left - 1) a.params.now b) k.0 h.means in
     record {
@@ -173,28 +173,28 @@ substitute_type-returns-in-One t c = let a = c.args in
       means = one_arm a.image.now a.l a.at a.left a.params.now b (not-false _ c.if-not-a.false-raw) _ c.push_front-g.result (λ z. omega (arith, k.2.0, z)) k.3 q _ c.section_word-code.ensures (c.push_front-g.ensures.0 b.ty.poison);
     }
 
-pub substitute_type-overflow_add-at : goal.substitute_type-overflow_add-at
-substitute_type-overflow_add-at t c = let a = c.args in
+pub resolve-overflow_add-at : goal.resolve-overflow_add-at
+resolve-overflow_add-at t c = let a = c.args in
     search (rules, (as_parts a.image.now a.l a.at a.left c.node_at-node.result c.node_at-node.ensures Parts.Fixed c.in-Fixed.is).2.1, c.requires.inside.small, c.requires.inside.pool)
 
-pub substitute_type-overflow_add-at-in-Fixed : goal.substitute_type-overflow_add-at-in-Fixed
-substitute_type-overflow_add-at-in-Fixed t c = let a = c.args in
+pub resolve-overflow_add-at-in-Fixed : goal.resolve-overflow_add-at-in-Fixed
+resolve-overflow_add-at-in-Fixed t c = let a = c.args in
     search (rules, (as_parts a.image.now a.l a.at a.left c.node_at-node.result c.node_at-node.ensures Parts.Fixed c.in-Fixed.is).2.1, c.requires.inside.small, c.requires.inside.pool)
 
-pub substitute_type-overflow_add-at-in-Fixed-2 : goal.substitute_type-overflow_add-at-in-Fixed-2
-substitute_type-overflow_add-at-in-Fixed-2 t c = let a = c.args in
+pub resolve-overflow_add-at-in-Fixed-2 : goal.resolve-overflow_add-at-in-Fixed-2
+resolve-overflow_add-at-in-Fixed-2 t c = let a = c.args in
     search (rules, (as_parts a.image.now a.l a.at a.left c.node_at-node.result c.node_at-node.ensures Parts.Fixed c.in-Fixed.is).2.1, c.requires.inside.small, c.requires.inside.pool)
 
-pub substitute_type-section_word-high-requires : goal.substitute_type-section_word-high-requires
-substitute_type-section_word-high-requires t c = search (rules, c.requires.inside)
+pub resolve-section_word-high-requires : goal.resolve-section_word-high-requires
+resolve-section_word-high-requires t c = search (rules, c.requires.inside)
 
-pub substitute_type-push_fixed-g-requires : goal.substitute_type-push_fixed-g-requires
-substitute_type-push_fixed-g-requires t c = search (rules, c.substitute_type-a.type_inv)
+pub resolve-push_fixed-g-requires : goal.resolve-push_fixed-g-requires
+resolve-push_fixed-g-requires t c = c.resolve.ensures.wide
 
-pub substitute_type-returns-in-Fixed : goal.substitute_type-returns-in-Fixed
-substitute_type-returns-in-Fixed t c = let a = c.args in
-    let h = c.substitute_type-a.ensures in
-    let b = c.substitute_type-a.result in
+pub resolve-returns-in-Fixed-clause-keeps : goal.resolve-returns-in-Fixed-clause-keeps
+resolve-returns-in-Fixed-clause-keeps t c = let a = c.args in
+    let h = c.resolve.ensures.keeps in
+    let b = c.resolve.new.a in
     let k = as_parts a.image.now a.l a.at a.left c.node_at-node.result c.node_at-node.ensures Parts.Fixed c.in-Fixed.is in
     let q = subst (λ (n : ℕ). Substitutes a.image.now a.l n (a.left - 1) a.params.now b) k.0 h.means in
     record {
@@ -202,13 +202,13 @@ substitute_type-returns-in-Fixed t c = let a = c.args in
       means = fixed_arm a.image.now a.l a.at a.left a.params.now b (not-false _ c.if-not-a.false-raw) _ c.push_fixed-g.result (λ z. omega (arith, k.2.0, z)) k.3 q _ _ c.section_word-low.ensures c.section_word-high.ensures (c.push_fixed-g.ensures.0 b.ty.poison);
     }
 
-pub substitute_type-push_front-g-requires-in-Two : goal.substitute_type-push_front-g-requires-in-Two
-substitute_type-push_front-g-requires-in-Two t c = search (rules, c.substitute_type-a.type_inv)
+pub resolve-push_front-g-requires-in-Two : goal.resolve-push_front-g-requires-in-Two
+resolve-push_front-g-requires-in-Two t c = c.resolve.ensures.wide
 
-pub substitute_type-returns-then-not-g : goal.substitute_type-returns-then-not-g
-substitute_type-returns-then-not-g t c = let a = c.args in
-    let h = c.substitute_type-a.ensures in
-    let b = c.substitute_type-a.result in
+pub resolve-returns-then-not-g-clause-keeps : goal.resolve-returns-then-not-g-clause-keeps
+resolve-returns-then-not-g-clause-keeps t c = let a = c.args in
+    let h = c.resolve.ensures.keeps in
+    let b = c.resolve.new.a in
     let k = as_parts a.image.now a.l a.at a.left c.node_at-node.result c.node_at-node.ensures Parts.Two c.in-Two.is in
     let q = subst (λ (n : ℕ). Substitutes a.image.now a.l n (a.left - 1) a.params.now b) k.0 h.means in
     record {
@@ -216,15 +216,15 @@ substitute_type-returns-then-not-g t c = let a = c.args in
       means = two_full a.image.now a.l a.at a.left a.params.now b (not-false _ c.if-not-a.false-raw) _ c.push_front-g-in-Two.result (λ z. omega (arith, k.2.0, z)) k.3 q _ (c.push_front-g-in-Two.ensures.0 false) (not-true _ c.if-not-g.true) _ refl;
     }
 
-pub substitute_type-append-e-requires : goal.substitute_type-append-e-requires
-substitute_type-append-e-requires t c = let a = c.args in
+pub resolve-append-e-requires : goal.resolve-append-e-requires
+resolve-append-e-requires t c = let a = c.args in
     let k = as_parts a.image.now a.l a.at a.left c.node_at-node.result c.node_at-node.ensures Parts.Two c.in-Two.is in
-    (omega (arith, c.decreases, k.2.0, c.substitute_type-a.ensures.falls), (c.requires, c.push_front-g-in-Two.ensures.1, ((c.push_front-g-in-Two.ensures.0 false).runs (not-false _ c.if-not-g.false)).small))
+    (omega (arith, c.decreases, k.2.0, c.resolve.ensures.keeps.falls), (c.requires, c.push_front-g-in-Two.ensures.1, ((c.push_front-g-in-Two.ensures.0 false).runs (not-false _ c.if-not-g.false)).small))
 
-pub substitute_type-returns-in-Two : goal.substitute_type-returns-in-Two
-substitute_type-returns-in-Two t c = let a = c.args in
-    let h = c.substitute_type-a.ensures in
-    let b = c.substitute_type-a.result in
+pub resolve-returns-in-Two-clause-keeps : goal.resolve-returns-in-Two-clause-keeps
+resolve-returns-in-Two-clause-keeps t c = let a = c.args in
+    let h = c.resolve.ensures.keeps in
+    let b = c.resolve.new.a in
     let e = c.append-e.ensures in
     let k = as_parts a.image.now a.l a.at a.left c.node_at-node.result c.node_at-node.ensures Parts.Two c.in-Two.is in
     let q = subst (λ (n : ℕ). Substitutes a.image.now a.l n (a.left - 1) a.params.now b) k.0 h.means in
@@ -233,15 +233,15 @@ substitute_type-returns-in-Two t c = let a = c.args in
       means = two_arm a.image.now a.l a.at a.left a.params.now b (not-false _ c.if-not-a.false-raw) _ c.push_front-g-in-Two.result (λ z. omega (arith, k.2.0, z)) k.3 q _ c.section_word-code-in-Two.ensures (c.push_front-g-in-Two.ensures.0 false) (not-false _ c.if-not-g.false) c.append-e.result _ e.means h.falls;
     }
 
-pub substitute_type-expand-e-requires : goal.substitute_type-expand-e-requires
-substitute_type-expand-e-requires t c = let a = c.args in
+pub resolve-expand-e-requires : goal.resolve-expand-e-requires
+resolve-expand-e-requires t c = let a = c.args in
     let k = as_parts a.image.now a.l a.at a.left c.node_at-node.result c.node_at-node.ensures Parts.Alias c.in-Alias.is in
-    (omega (arith, c.decreases, k.2.0, c.substitute_type-a.ensures.falls), (c.requires, search (rules, c.substitute_type-a.type_inv)))
+    (omega (arith, c.decreases, k.2.0, c.resolve.ensures.keeps.falls), (c.requires, c.resolve.ensures.wide))
 
-pub substitute_type-returns-in-Alias : goal.substitute_type-returns-in-Alias
-substitute_type-returns-in-Alias t c = let a = c.args in
-    let h = c.substitute_type-a.ensures in
-    let b = c.substitute_type-a.result in
+pub resolve-returns-in-Alias-clause-keeps : goal.resolve-returns-in-Alias-clause-keeps
+resolve-returns-in-Alias-clause-keeps t c = let a = c.args in
+    let h = c.resolve.ensures.keeps in
+    let b = c.resolve.new.a in
     let e = c.expand-e.ensures in
     let k = as_parts a.image.now a.l a.at a.left c.node_at-node.result c.node_at-node.ensures Parts.Alias c.in-Alias.is in
     let q = subst (λ (n : ℕ). Substitutes a.image.now a.l n (a.left - 1) a.params.now b) k.0 h.means in
