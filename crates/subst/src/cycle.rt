@@ -1,8 +1,9 @@
 // Nodes with parts: the resolver and the expander of generic aliases, which call each other. The visits left fall with each node read.
 //
-// These calls nest up to 1,024 deep, so each frame holds one answer by value; beside it `expand` has its parameter's row, and
-// `append` a copy of the type that it puts behind the words. What grows lies in lent words. A function that calls itself
-// is not made part of its callers: so each of the three has a frame of its own.
+// These calls nest up to 1,024 deep, so what comes of an expression lies in a lent place: `append` and `expand` hold one by
+// value, beside it `expand` its parameter's row, and `append` a copy of the type that it puts behind the words; `resolve` holds
+// none. What grows lies in lent words. A function that calls itself is not made part of its callers: so each of the three has a
+// frame of its own.
 ghost use Rattle.std.specs.Prelude.{◌≤◌, ◌≡◌, length};
 ghost use Rattle.image_layout.specs.Rows.{Cut};
 ghost use Rattle.subst_leaves.specs.Says.{Keeps};
