@@ -1,4 +1,5 @@
-/* The proved calls of Fruscalitu for C: crates/exports/out/libexports.a, which `rt lib` builds in crates/exports.
+/* The proved calls of Fruscalitu for C: crates/exports/out/libexports.a, which `rt lib --cpu x86-64`
+ * builds in crates/exports.
  *
  * Each function has a proved statement in crates/exports. What C itself must keep, since no proof sees it:
  *
@@ -6,8 +7,7 @@
  *   a count of 0, and that many elements can be read there, and written where it is not const.
  * - The slices that are written (output, detail, answer) overlap neither one another nor the image.
  * - The caller has FRUSCALITU_STACK_BYTES of stack left: nothing checks it, and a call that runs past it kills the process.
- * - The archive is for x86-64 Linux on a processor with the features of x86-64-v2, which nothing checks; one that
- *   `rt lib --cpu x86-64` builds needs none. It asks of C's library memcpy and memset.
+ * - The archive is for x86-64 Linux, and asks of C's library memcpy and memset. (Without --cpu it is for x86-64-v2 alone.)
  *
  * Nothing is kept after a call, nothing is allocated, there is no state: threads may call at once, each with its own
  * slices. Every image, number and count has an answer; nothing is required of the bytes.

@@ -16,7 +16,7 @@ fn main() {
         Some(folder) => PathBuf::from(folder),
         // Another processor's program is told here, in place of a linker's words about a file of the wrong kind.
         None if env::var("CARGO_CFG_TARGET_ARCH").as_deref() != Ok("x86_64") => fail(
-            "the library that `rt lib` builds in crates/exports links into x86-64 programs only; on another processor \
+            "the library that `rt lib --cpu x86-64` builds in crates/exports links into x86-64 programs only; on another processor \
              run bindings/check, which asks it through an emulator",
         ),
         None => Path::new(&env::var_os("CARGO_MANIFEST_DIR").unwrap_or_default()).join("../../crates/exports/out"),
@@ -25,7 +25,7 @@ fn main() {
     println!("cargo:rerun-if-changed={}", archive.display());
     if !archive.is_file() {
         fail(&format!(
-            "there is no {}: run `rt lib` in the repository's crates/exports, or set FRUSCALITU_LIBRARY to the folder \
+            "there is no {}: run `rt lib --cpu x86-64` in the repository's crates/exports, or set FRUSCALITU_LIBRARY to the folder \
              that has libexports.a",
             archive.display()
         ));
