@@ -93,14 +93,14 @@ module _ {c : Call} (s : CompiledSchema) (i : ImplDef) (t : TraitDef) where
   few_projected e few v ws q = few v ws (ap (λ (k : Call). after_subject k s i t) e ∙ q)
 
 -- what is accepted has few words
-pub few : (c : Call) {image : List ℕ} {l : Layout} {s : CompiledSchema} → Open image l s → (row : ℕ) → Few (call_of c row s)
+pub few : (c : Call) {l : Layout} {s : CompiledSchema} → Open l s → (row : ℕ) → Few (call_of c row s)
 unfolding call_of
-few Call.Signatures {image} {l} {s} o row v ws q = omega (arith, (signatures_bound image s o.read row v ws q).1)
-few Call.Projection {image} {l} {s} o row v ws q = omega (arith, (project_bound image s o.read row v ws q).1)
+few Call.Signatures {image} {l} {s} o row v ws q = omega (arith, (signatures_bound s o.read row v ws q).1)
+few Call.Projection {image} {l} {s} o row v ws q = omega (arith, (project_bound s o.read row v ws q).1)
 
-pub few_behind : (c : Call) {image : List ℕ} {l : Layout} {s : CompiledSchema} → Open image l s → (row : ℕ) {r : Result (ℕ × List ℕ)} → call_of c row s ≡ r → Few r
+pub few_behind : (c : Call) {l : Layout} {s : CompiledSchema} → Open l s → (row : ℕ) {r : Result (ℕ × List ℕ)} → call_of c row s ≡ r → Few r
 few_behind c o row e v ws q = few c o row v ws (e ∙ q)
 
 -- an accepted length fits a word
-pub fits : (c : Call) {image : List ℕ} {l : Layout} {s : CompiledSchema} → Open image l s → (row : ℕ) {old new : List ℕ} {r : Outcome} → Accepted (call_of c row s) old new r → r.length < 2 ^ 32
+pub fits : (c : Call) {l : Layout} {s : CompiledSchema} → Open l s → (row : ℕ) {old new : List ℕ} {r : Outcome} → Accepted (call_of c row s) old new r → r.length < 2 ^ 32
 fits c o row a = length_fits a (omega (arith, few c o row a.visits a.words a.is))

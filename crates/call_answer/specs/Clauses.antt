@@ -15,12 +15,12 @@ use Rattle.call_answer.specs.Calls.{after_subject, call_of}
 use Rattle.call_answer.specs.declared.Call.{Call}
 
 -- what comes behind 3 and 4, of whatever implementation and trait were found
-abbrev pub ComesAfterSubject : Call → List ℕ → Layout → Subject → List ℕ → List ℕ → Outcome → Type 0
-ComesAfterSubject call image l f out out' r =
-    (a : About image l f) → Few (after_subject call a.schema a.impl a.trait)
+abbrev pub ComesAfterSubject : Call → Layout → Subject → List ℕ → List ℕ → Outcome → Type 0
+ComesAfterSubject call l f out out' r =
+    (a : About l f) → Few (after_subject call a.schema a.impl a.trait)
     → Comes (after_subject call a.schema a.impl a.trait) out out' r
 
 -- the call's answer on the schema that the image holds, with every byte of both buffers
-abbrev pub AnswersReadable : Call → List ℕ → Layout → TypeId → List ℕ → List ℕ → List ℕ → List ℕ → Answer → Type 0
-AnswersReadable call image l number output output' detail detail' r =
-    (s : CompiledSchema) → Open image l s → answer_of r output' detail' ≡ finished (call_of call number.0 s) output detail
+abbrev pub AnswersReadable : Call → Layout → TypeId → List ℕ → List ℕ → List ℕ → List ℕ → Answer → Type 0
+AnswersReadable call l number output output' detail detail' r =
+    (s : CompiledSchema) → Open l s → answer_of r output' detail' ≡ finished (call_of call number.0 s) output detail

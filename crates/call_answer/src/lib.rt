@@ -24,26 +24,26 @@ pub enum Call {
 }
 
 // What comes behind 3 and 4.
-fn after_subject(call: Call, image: &[u8], l: Layout, f: Subject, out: &mut [u8]) -> Outcome
-    requires { Cut image.now l × About image.now l f }
-    ensures { ComesAfterSubject call image.now l f out.old out.new result }
+fn after_subject(call: Call, l: &Layout, f: Subject, out: &mut [u8]) -> Outcome
+    requires { Cut l.now × About l.now f }
+    ensures { ComesAfterSubject call l.now f out.old out.new result }
 {
     match call {
-        Call::Signatures => expected_functions::expected_functions(image, l, f.start, f.types, out),
-        Call::Projection => project_impl::project(image, l, f, out),
+        Call::Signatures => expected_functions::expected_functions(l, f.start, f.types, out),
+        Call::Projection => project_impl::project(l, f, out),
     }
 }
 
 // The call's words, as far as they fit.
-fn pass(call: Call, image: &[u8], l: Layout, number: TypeId, out: &mut [u8]) -> Outcome
-    requires { Cut image.now l × Opens image.now l }
-    ensures { (s : CompiledSchema) → Open image.now l s → Comes (call_of call number.0 s) out.old out.new result }
+fn pass(call: Call, l: &Layout, number: TypeId, out: &mut [u8]) -> Outcome
+    requires { Cut l.now × Opens l.now }
+    ensures { (s : CompiledSchema) → Open l.now s → Comes (call_of call number.0 s) out.old out.new result }
 {
-    let f = impl_trait::find_subject(image, l, number);
+    let f = impl_trait::find_subject(l, number);
     if f.number != 0 {
         return answers::answer::refused(Refusal::named(f.number, NameId::NONE, f.name));
     }
-    after_subject(call, image, l, f, out)
+    after_subject(call, l, f, out)
 }
 
 // Bytes that the first pass keeps: what most outputs need.
@@ -52,22 +52,21 @@ const FIRST_PASS: usize = 16384;
 // The answer on a readable image. The first pass keeps its words; where they are too many for that, a second one writes them.
 fn answer_readable(
     call: Call,
-    image: &[u8],
-    l: Layout,
+    l: &Layout,
     number: TypeId,
     output: &mut [u8],
     detail: &mut [u8],
 ) -> Answer
-    requires { Cut image.now l × Opens image.now l × (576 ≤ length detail.old) }
-    ensures { AnswersReadable call image.now l number output.old output.new detail.old detail.new result }
+    requires { Cut l.now × Opens l.now × (576 ≤ length detail.old) }
+    ensures { AnswersReadable call l.now number output.old output.new detail.old detail.new result }
 {
     let mut first = [0u8; FIRST_PASS];
-    let m = pass(call, image, l, number, &mut first);
+    let m = pass(call, l, number, &mut first);
     let e = call_finish::finish(m, &first, output, detail);
     if e.done {
         return e.answer;
     }
-    let w = pass(call, image, l, number, output);
+    let w = pass(call, l, number, output);
     answers::answer::accept(w.length as u32, w.visits)
 }
 
@@ -86,5 +85,5 @@ pub fn answer(
         return answers::answer::alone(f.number);
     }
     let l = f.layout;
-    answer_readable(call, image, l, number, output, detail)
+    answer_readable(call, l, number, output, detail)
 }

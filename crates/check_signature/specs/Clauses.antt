@@ -18,21 +18,21 @@ use Rattle.type_words.specs.Holds.{MaybeHolds}
 use Rattle.type_words.specs.declared.MaybeType.{MaybeType}
 
 -- the test of a function against the signature whose parameters are in the table
-abbrev pub ChecksSignature : List ℕ → Layout → ℕ → NameId → List ℕ → List ℕ → List ℕ → ℕ → MaybeType → Outcome → Type 0
-ChecksSignature image l at name names words lens count returns r =
-    (f : ImplFnDef) (n : ℕ) → FunctionStands l.names.rows l.strings.rows (pool_words image l) f at n → (sig : PortableSignature)
+abbrev pub ChecksSignature : Layout → ℕ → NameId → List ℕ → List ℕ → List ℕ → ℕ → MaybeType → Outcome → Type 0
+ChecksSignature l at name names words lens count returns r =
+    (f : ImplFnDef) (n : ℕ) → FunctionStands l.names.rows l.strings.rows (pool_words l) f at n → (sig : PortableSignature)
     → sig.name ≡ name.0 → Rows l.names.rows names words lens count 0 sig.params → MaybeHolds l.names.rows returns sig.return_type
     → Passes (check_signature f sig) r
 
 -- the parameters that stand in the pool against those in the table, of which there are as many
-abbrev pub ChecksParams : List ℕ → Layout → ℕ → NameId → List ℕ → List ℕ → List ℕ → ℕ → Outcome → Type 0
-ChecksParams image l at function names words lens count r =
+abbrev pub ChecksParams : Layout → ℕ → NameId → List ℕ → List ℕ → List ℕ → ℕ → Outcome → Type 0
+ChecksParams l at function names words lens count r =
     (ps es : List (Param ResolvedType)) (n : ℕ)
-    → Row (ParamAt l.names.rows (pool_words image l) (TypeStands l.names.rows (pool_words image l))) ps at n
+    → Row (ParamAt l.names.rows (pool_words l) (TypeStands l.names.rows (pool_words l))) ps at n
     → Rows l.names.rows names words lens count 0 es → length ps ≡ length es → Passes (check_params function.0 ps es) r
 
 -- the return type that stands there, or none
-abbrev pub HoldsReturn : List ℕ → Layout → ℕ → MaybeType → Type 0
-HoldsReturn image l at r =
-    (o : Option ResolvedType) (n : ℕ) → MaybeAt (pool_words image l) (TypeStands l.names.rows (pool_words image l)) o at n
+abbrev pub HoldsReturn : Layout → ℕ → MaybeType → Type 0
+HoldsReturn l at r =
+    (o : Option ResolvedType) (n : ℕ) → MaybeAt (pool_words l) (TypeStands l.names.rows (pool_words l)) o at n
     → MaybeHolds l.names.rows r o

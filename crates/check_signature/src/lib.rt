@@ -29,8 +29,7 @@ fn as_word(count: usize) -> u32
 
 // The function at `at` against the signature of this name, whose parameters are the rows of the table: counts, parameters, returns.
 pub fn check_signature(
-    image: &[u8],
-    l: Layout,
+    l: &Layout,
     at: usize,
     name: NameId,
     names: &[u32],
@@ -39,31 +38,31 @@ pub fn check_signature(
     count: usize,
     returns: MaybeType,
 ) -> Outcome
-    requires { Inside image.now l }
-    ensures { ChecksSignature image.now l at name names.now words.now lens.now count returns result }
+    requires { Inside l.now }
+    ensures { ChecksSignature l.now at name names.now words.now lens.now count returns result }
 {
     let pool = l.pool;
     let start = image_words::after(pool, at);
-    let found = image_words::section_word(image, pool, start);
+    let found = image_words::section_word(pool, start);
     let wanted = as_word(count);
     if found != wanted {
         return answers::answer::refused(check_types::mismatch::wrong_word(name, 1, wanted, found));
     }
     let place = image_words::after(pool, start);
-    let r = crate::params::check_params(image, l, place, name, names, words, lens, count);
+    let r = crate::params::check_params(l, place, name, names, words, lens, count);
     if !r.ok {
         return r;
     }
-    let end = crate::parts::return_start(image, l, at);
-    check_types::check_return(name, returns, crate::parts::hold_return(image, l, end))
+    let end = crate::parts::return_start(l, at);
+    check_types::check_return(name, returns, crate::parts::hold_return(l, end))
 }
 
 // Where the body of the function at `at` stands.
-pub fn body_start(image: &[u8], l: Layout, at: usize) -> usize
-    requires { Inside image.now l }
-    ensures { (f : ImplFnDef) (n : ℕ) (h : FunctionStands l.names.rows l.strings.rows (pool_words image.now l) f at n) → result ≡ h.parts.return_end }
+pub fn body_start(l: &Layout, at: usize) -> usize
+    requires { Inside l.now }
+    ensures { (f : ImplFnDef) (n : ℕ) (h : FunctionStands l.now.names.rows l.now.strings.rows (pool_words l.now) f at n) → result ≡ h.parts.return_end }
 {
     let pool = l.pool;
-    let place = crate::parts::return_start(image, l, at);
-    skip_types::skip_maybe_type(image, pool, place)
+    let place = crate::parts::return_start(l, at);
+    skip_types::skip_maybe_type(pool, place)
 }

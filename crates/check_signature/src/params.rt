@@ -19,8 +19,7 @@ fn name_at(names: &[u32], i: usize) -> NameId
 
 // The parameters from `at` on against the rows of the table, which are as many.
 pub fn check_params(
-    image: &[u8],
-    l: Layout,
+    l: &Layout,
     at: usize,
     function: NameId,
     names: &[u32],
@@ -28,16 +27,16 @@ pub fn check_params(
     lens: &[u32],
     count: usize,
 ) -> Outcome
-    requires { Inside image.now l }
-    ensures { ChecksParams image.now l at function names.now words.now lens.now count result }
+    requires { Inside l.now }
+    ensures { ChecksParams l.now at function names.now words.now lens.now count result }
 {
     let pool = l.pool;
     let mut i = 0;
     let mut next = at;
     while i < count {
-        let found = NameId(image_words::section_word(image, pool, next));
+        let found = NameId(image_words::section_word(pool, next));
         let place = image_words::after(pool, next);
-        let h = type_from_pool::hold_type(image, l, place);
+        let h = type_from_pool::hold_type(l, place);
         let actual = h.ty;
         let wanted = name_at(names, i);
         let expected = locals::local_type(words, lens, i);

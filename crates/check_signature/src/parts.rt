@@ -10,26 +10,26 @@ use image_layout::Layout;
 use type_words::MaybeType;
 
 // Where the return of the function at `at` stands: behind its name and its parameters.
-pub fn return_start(image: &[u8], l: Layout, at: usize) -> usize
-    requires { Inside image.now l }
-    ensures { (f : ImplFnDef) (n : ℕ) (h : FunctionStands l.names.rows l.strings.rows (pool_words image.now l) f at n) → result ≡ h.parts.params_end }
+pub fn return_start(l: &Layout, at: usize) -> usize
+    requires { Inside l.now }
+    ensures { (f : ImplFnDef) (n : ℕ) (h : FunctionStands l.now.names.rows l.now.strings.rows (pool_words l.now) f at n) → result ≡ h.parts.params_end }
 {
     let pool = l.pool;
     let place = image_words::after(pool, at);
-    skip_functions::functions::skip_params(image, pool, place)
+    skip_functions::functions::skip_params(pool, place)
 }
 
 // The return at `at`: 0, or 1 and its type.
-pub fn hold_return(image: &[u8], l: Layout, at: usize) -> MaybeType
-    requires { Inside image.now l }
-    ensures { HoldsReturn image.now l at result }
+pub fn hold_return(l: &Layout, at: usize) -> MaybeType
+    requires { Inside l.now }
+    ensures { HoldsReturn l.now at result }
 {
     let pool = l.pool;
-    if image_words::section_word(image, pool, at) == 0 {
+    if image_words::section_word(pool, at) == 0 {
         return MaybeType::none();
     }
     let place = image_words::after(pool, at);
-    let h = type_from_pool::hold_type(image, l, place);
+    let h = type_from_pool::hold_type(l, place);
     let ty = h.ty;
     MaybeType::some(ty)
 }

@@ -6,7 +6,7 @@ use Rattle.impl_trait.specs.declared.Subject.{Subject}
 use Rattle.impl_trait.specs.Subjects.{About}
 use Rattle.expected_functions.specs.Asked.{Asked}
 
-abbrev pub asked : {image : List ℕ} {l : Layout} {f : Subject} → About image l f → Asked image l f.start f.types
+abbrev pub asked : {l : Layout} {f : Subject} → About l f → Asked l f.start f.types
 asked a = record {
   schema = a.schema;
   opened = a.opened;

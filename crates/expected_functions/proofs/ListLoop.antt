@@ -28,9 +28,9 @@ use Rattle.expected_signature.proofs.ParamLoop.{each_snoc}
 use Rattle.expected_functions.specs.Asked.{FunctionsHere, in_words}
 use Rattle.expected_functions.proofs.Lists.{prepend, prepend_none, prepend_err, prepend_end, list_large, list_poisoned, list_more}
 
-module _ {image : List ℕ} {l : Layout} {params : List ℕ} {at : ℕ} (h : FunctionsHere image l params at) (from : ℕ) (old : List ℕ) where
+module _ {l : Layout} {params : List ℕ} {at : ℕ} (h : FunctionsHere l params at) (from : ℕ) (old : List ℕ) where
   abbrev Functions : List TraitFnDef → ℕ → Type 0
-  Functions fs next = Row (TraitFunctionStands l.names.rows (pool_words image l)) fs next h.behind
+  Functions fs next = Row (TraitFunctionStands l.names.rows (pool_words l)) fs next h.behind
 
   abbrev all_of : List TraitFnDef → Result (ℕ × List PortableSignature)
   all_of fs = expected_list h.schema h.seen fs
@@ -62,23 +62,23 @@ module _ {image : List ℕ} {l : Layout} {params : List ℕ} {at : ℕ} (h : Fun
   }
 
   -- the first of some functions
-  abbrev first : {next : ℕ} (f : TraitFnDef) (fs : List TraitFnDef) → Functions (f ∷ fs) next → FunctionHere image l params next
+  abbrev first : {next : ℕ} (f : TraitFnDef) (fs : List TraitFnDef) → Functions (f ∷ fs) next → FunctionHere l params next
   first f fs r = record { schema = h.schema; opened = h.opened; seen = h.seen; views = h.views; tree = f; behind = r.0; stands = r.1 }
 
-  here_o : {next : ℕ} (left : List TraitFnDef) → Functions left next → 0 < length left → FunctionHere image l params next
+  here_o : {next : ℕ} (left : List TraitFnDef) → Functions left next → 0 < length left → FunctionHere l params next
   here_o [] r b = absurd (omega arith)
   here_o (f ∷ fs) r b = first f fs r
 
   module _ {i next place visits : ℕ} {new : List ℕ} (v : Left i next place visits new) where
     module _ (b : i < length h.tree) where
       -- the next one stands there
-      pub turn_here : FunctionHere image l params next
+      pub turn_here : FunctionHere l params next
       turn_here = here_o v.left v.row (omega (arith, v.count))
 
-      module _ {newer : List ℕ} {r : Part} (p : (k : FunctionHere image l params next) → PartSays words_of poisoned_signature (resolve_signature k.schema k.seen k.tree) k.behind place new newer r) where
+      module _ {newer : List ℕ} {r : Part} (p : (k : FunctionHere l params next) → PartSays words_of poisoned_signature (resolve_signature k.schema k.seen k.tree) k.behind place new newer r) where
         -- its name, and 8 or 7 of it
         abbrev Refused : ℕ → List TraitFnDef → Type 0
-        Refused n left = all_of left ≡ err (in_function n (get_or (pool_words image l) next 0))
+        Refused n left = all_of left ≡ err (in_function n (get_or (pool_words l) next 0))
 
         large_o : (left : List TraitFnDef) → Functions left next → 0 < length left → r.ok ≡ false → Refused 8 left
         large_o [] w c e = absurd (omega arith)
@@ -90,16 +90,16 @@ module _ {image : List ℕ} {l : Layout} {params : List ℕ} {at : ℕ} (h : Fun
             let m = made (p (first f fs w)) e in
             list_poisoned h.schema h.seen f fs m.is (sym m.so.poison ∙ q) ∙ ap (λ (k : ℕ). err (in_function 7 k)) (sym w.1.parts.name_at.is)
 
-        refused_o : {n : ℕ} → Refused n v.left → {x : ℕ} → x ≡ get_or (pool_words image l) next 0 → {first_out : List ℕ} {o : Outcome} → o.ok ≡ false → refusal_of o.refusal ≡ in_function n x
+        refused_o : {n : ℕ} → Refused n v.left → {x : ℕ} → x ≡ get_or (pool_words l) next 0 → {first_out : List ℕ} {o : Outcome} → o.ok ≡ false → refusal_of o.refusal ≡ in_function n x
             → Comes (in_words (all_of h.tree)) first_out newer o
         unfolding ◌>>=◌
         refused_o {n} e q d f = comes_err (ap in_words (v.so ∙ ap (prepend visits v.made) e ∙ prepend_err visits v.made)) d (f ∙ ap (in_function n) q)
 
-        pub turn_large : r.ok ≡ false → {x : ℕ} → x ≡ get_or (pool_words image l) next 0 → {first_out : List ℕ} {o : Outcome} → o.ok ≡ false → refusal_of o.refusal ≡ in_function 8 x
+        pub turn_large : r.ok ≡ false → {x : ℕ} → x ≡ get_or (pool_words l) next 0 → {first_out : List ℕ} {o : Outcome} → o.ok ≡ false → refusal_of o.refusal ≡ in_function 8 x
             → Comes (in_words (all_of h.tree)) first_out newer o
         turn_large e = refused_o (large_o v.left v.row (omega (arith, v.count)) e)
 
-        pub turn_poisoned : r.ok ≡ true → r.poisoned ≡ true → {x : ℕ} → x ≡ get_or (pool_words image l) next 0 → {first_out : List ℕ} {o : Outcome} → o.ok ≡ false
+        pub turn_poisoned : r.ok ≡ true → r.poisoned ≡ true → {x : ℕ} → x ≡ get_or (pool_words l) next 0 → {first_out : List ℕ} {o : Outcome} → o.ok ≡ false
             → refusal_of o.refusal ≡ in_function 7 x → Comes (in_words (all_of h.tree)) first_out newer o
         turn_poisoned e q = refused_o (poisoned_o v.left v.row (omega (arith, v.count)) e q)
 
@@ -127,7 +127,7 @@ module _ {image : List ℕ} {l : Layout} {params : List ℕ} {at : ℕ} (h : Fun
         turn_goes e q = more_o v.left v.row v.count v.so e q
 
     -- behind their count, written before
-    module _ {w : ℕ} {first_out : List ℕ} (counts : w ≡ get_or (pool_words image l) at 0) (count_written : Writes (w ∷ []) 0 from first_out old) where
+    module _ {w : ℕ} {first_out : List ℕ} (counts : w ≡ get_or (pool_words l) at 0) (count_written : Writes (w ∷ []) 0 from first_out old) where
       end_o : (left : List TraitFnDef) → length left ≡ 0 → all_of h.tree ≡ prepend visits v.made (all_of left) → w ≡ length v.made
           → {o : Outcome} → o.ok ≡ true → o.length ≡ place → o.visits ≡ visits → Comes (in_words (all_of h.tree)) first_out new o
       unfolding ◌>>=◌ signatures_words listed

@@ -23,7 +23,7 @@ pub names_end : (ws : List ℕ) (limit : ℕ) (xs : List ℕ) (at n : ℕ) → R
 names_end ws limit [] at n r = omega (arith, r)
 names_end ws limit (x ∷ xs) at n r = omega (arith, names_end ws limit xs r.0 n r.2, r.1.2)
 
-module _ {image : List ℕ} {l : Layout} {start types : ℕ} (a : Asked image l start types) where
+module _ {l : Layout} {start types : ℕ} (a : Asked l start types) where
   abbrev pub wants : ℕ
   wants = length a.trait.type_params
 
@@ -37,7 +37,7 @@ module _ {image : List ℕ} {l : Layout} {start types : ℕ} (a : Asked image l 
   unfolding expected_functions
   tested b e = ap six e
 
-  module _ {w g : ℕ} (wanted : w ≡ get_or (pool_words image l) (start + 1) 0) (given : g ≡ get_or (pool_words image l) types 0) where
+  module _ {w g : ℕ} (wanted : w ≡ get_or (pool_words l) (start + 1) 0) (given : g ≡ get_or (pool_words l) types 0) where
     pub wants_is : w ≡ wants
     wants_is = wanted ∙ a.trait_at.parts.type_params_at.0.is
 
@@ -48,7 +48,7 @@ module _ {image : List ℕ} {l : Layout} {start types : ℕ} (a : Asked image l 
     few = omega (arith, wants_is, a.trait_at.parts.type_params_at.1)
 
     -- 6
-    pub not_as_many : (w ≡ g → ⊥) → {x : ℕ} → x ≡ get_or (pool_words image l) start 0 → expected_functions a.schema a.trait a.impl ≡ err (with_detail 6 x (0 ∷ w ∷ g ∷ []))
+    pub not_as_many : (w ≡ g → ⊥) → {x : ℕ} → x ≡ get_or (pool_words l) start 0 → expected_functions a.schema a.trait a.impl ≡ err (with_detail 6 x (0 ∷ w ∷ g ∷ []))
     unfolding ◌>>=◌ ensure
     not_as_many n q =
         tested false (ne_eqb wants has (λ e. n (wants_is ∙ e ∙ sym has_is)))
@@ -60,7 +60,7 @@ module _ {image : List ℕ} {l : Layout} {start types : ℕ} (a : Asked image l 
       unfolding ◌>>=◌ ensure
       as_many = tested true (eq-eqb wants has (sym wants_is ∙ e ∙ has_is))
 
-      abbrev pub given_of : Given image l (start + 1 + 1) (types + 1) w
+      abbrev pub given_of : Given l (start + 1 + 1) (types + 1) w
       given_of = record {
         params = a.trait.type_params;
         params_end = a.trait_at.parts.type_params_end;
@@ -73,7 +73,7 @@ module _ {image : List ℕ} {l : Layout} {start types : ℕ} (a : Asked image l 
         few = few;
       }
 
-      abbrev pub functions_of : {table : List ℕ} → Views l.names.rows table 0 (view a.trait.type_params a.impl.type_args) → FunctionsHere image l table (start + 1 + 1 + w)
+      abbrev pub functions_of : {table : List ℕ} → Views l.names.rows table 0 (view a.trait.type_params a.impl.type_args) → FunctionsHere l table (start + 1 + 1 + w)
       functions_of v = record {
         schema = a.schema;
         opened = a.opened;
@@ -81,5 +81,5 @@ module _ {image : List ℕ} {l : Layout} {start types : ℕ} (a : Asked image l 
         views = v;
         tree = a.trait.functions;
         behind = a.trait_end;
-        stands = subst (λ (k : ℕ). Counted (pool_words image l) 64 (TraitFunctionStands l.names.rows (pool_words image l)) a.trait.functions k a.trait_end) (omega (arith, names_end (pool_words image l) l.names.rows a.trait.type_params (start + 1 + 1) a.trait_at.parts.type_params_end a.trait_at.parts.type_params_at.2, wants_is)) a.trait_at.parts.functions_at;
+        stands = subst (λ (k : ℕ). Counted (pool_words l) 64 (TraitFunctionStands l.names.rows (pool_words l)) a.trait.functions k a.trait_end) (omega (arith, names_end (pool_words l) l.names.rows a.trait.type_params (start + 1 + 1) a.trait_at.parts.type_params_end a.trait_at.parts.type_params_at.2, wants_is)) a.trait_at.parts.functions_at;
       }

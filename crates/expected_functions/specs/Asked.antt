@@ -15,18 +15,18 @@ use Rattle.expected_signature.specs.Here.{Here}
 abbrev pub in_words : Result (ℕ × List PortableSignature) → Result (ℕ × List ℕ)
 in_words r = r >>= λ p. ok (p.0, signatures_words p.1)
 
-module _ (image : List ℕ) (l : Layout) where
+module _ (l : Layout) where
   -- a trait's functions, with type parameters in view
   abbrev pub FunctionsHere : List ℕ → ℕ → Type 0
-  FunctionsHere params = Here image l params (Counted (pool_words image l) 64 (TraitFunctionStands l.names.rows (pool_words image l)))
+  FunctionsHere params = Here l params (Counted (pool_words l) 64 (TraitFunctionStands l.names.rows (pool_words l)))
 
   -- a trait at `start`, and type arguments at `types`
   pub record Asked (start types : ℕ) : Type 0 where
     pub schema : CompiledSchema
-    pub opened : Open image l schema
+    pub opened : Open l schema
     pub trait : TraitDef
     pub trait_end : ℕ
-    pub trait_at : TraitStands l.names.rows (pool_words image l) trait start trait_end
+    pub trait_at : TraitStands l.names.rows (pool_words l) trait start trait_end
     pub impl : ImplDef
     pub types_end : ℕ
-    pub types_at : Counted (pool_words image l) 8 (TypeStands l.names.rows (pool_words image l)) impl.type_args types types_end
+    pub types_at : Counted (pool_words l) 8 (TypeStands l.names.rows (pool_words l)) impl.type_args types types_end

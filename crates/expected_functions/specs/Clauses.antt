@@ -7,6 +7,6 @@ use Rattle.rules.specs.Signatures.{expected_list}
 use Rattle.expected_functions.specs.Asked.{FunctionsHere, in_words}
 
 -- the signatures of the functions that stand there, one after the other
-abbrev pub ListsExpected : List ℕ → Layout → ℕ → List ℕ → List ℕ → List ℕ → Outcome → Type 0
-ListsExpected image l at params out out' r =
-    (h : FunctionsHere image l params at) → Comes (in_words (expected_list h.schema h.seen h.tree)) out out' r
+abbrev pub ListsExpected : Layout → ℕ → List ℕ → List ℕ → List ℕ → Outcome → Type 0
+ListsExpected l at params out out' r =
+    (h : FunctionsHere l params at) → Comes (in_words (expected_list h.schema h.seen h.tree)) out out' r

@@ -14,26 +14,26 @@ use rules::ids::NameId;
 use subst_params::ROW;
 
 // The functions at `at`, with these type parameters in view. 8 comes before 7.
-pub fn expected_list(image: &[u8], l: Layout, at: usize, params: &[u32], out: &mut [u8]) -> Outcome
-    requires { Cut image.now l × FunctionsHere image.now l params.now at }
-    ensures { ListsExpected image.now l at params.now out.old out.new result }
+pub fn expected_list(l: &Layout, at: usize, params: &[u32], out: &mut [u8]) -> Outcome
+    requires { Cut l.now × FunctionsHere l.now params.now at }
+    ensures { ListsExpected l.now at params.now out.old out.new result }
 {
     let pool = l.pool;
-    let count = image_words::section_word(image, pool, at);
+    let count = image_words::section_word(pool, at);
     let mut place = answers::output::put(out, 0, count);
     let mut visits = 0;
     let mut next = at + 1;
     let mut i = 0;
     while i < count {
-        let f = expected_signature::whole::resolve_signature(image, l, next, params, out, place);
+        let f = expected_signature::whole::resolve_signature(l, next, params, out, place);
         let large = !f.ok;
         let poisoned = f.poisoned;
         if large {
-            let name = NameId(image_words::section_word(image, pool, next));
+            let name = NameId(image_words::section_word(pool, next));
             return answers::answer::refused(Refusal::at(8, name));
         }
         if poisoned {
-            let name = NameId(image_words::section_word(image, pool, next));
+            let name = NameId(image_words::section_word(pool, next));
             return answers::answer::refused(Refusal::at(7, name));
         }
         place = f.to;
@@ -46,23 +46,22 @@ pub fn expected_list(image: &[u8], l: Layout, at: usize, params: &[u32], out: &m
 
 // The functions of the trait at `start`, with its type parameters for the type arguments at `types`. 6 where these are not as many.
 pub fn expected_functions(
-    image: &[u8],
-    l: Layout,
+    l: &Layout,
     start: usize,
     types: usize,
     out: &mut [u8],
 ) -> Outcome
-    requires { Cut image.now l × Asked image.now l start types }
-    ensures { (a : Asked image.now l start types) → Comes (in_words (expected_functions a.schema a.trait a.impl)) out.old out.new result }
+    requires { Cut l.now × Asked l.now start types }
+    ensures { (a : Asked l.now start types) → Comes (in_words (expected_functions a.schema a.trait a.impl)) out.old out.new result }
 {
     let pool = l.pool;
-    let wanted = image_words::section_word(image, pool, start + 1);
-    let given = image_words::section_word(image, pool, types);
+    let wanted = image_words::section_word(pool, start + 1);
+    let given = image_words::section_word(pool, types);
     if wanted != given {
-        let name = NameId(image_words::section_word(image, pool, start));
+        let name = NameId(image_words::section_word(pool, start));
         return answers::answer::refused(Refusal::counts(name, wanted, given));
     }
     let n = wanted as usize;
-    let table = impl_rows::view::view(image, l, start + 1 + 1, types + 1, n);
-    expected_list(image, l, start + 1 + 1 + n, &table[..ROW * n], out)
+    let table = impl_rows::view::view(l, start + 1 + 1, types + 1, n);
+    expected_list(l, start + 1 + 1 + n, &table[..ROW * n], out)
 }

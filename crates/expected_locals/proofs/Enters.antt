@@ -29,7 +29,7 @@ module _ {rows behind : ℕ} {names words lens : List ℕ} {r : Entered} {o : Co
   says_done : {v : ℕ} {ps : List (Param ResolvedType)} → o ≡ done v ps → EnteredDone rows ps behind names words lens r → EnteredSays rows o behind names words lens r
   says_done e d = record { is = subst (λ (q : Counted (List (Param ResolvedType))). EnteredAgrees rows q behind names words lens r) (sym e) d }
 
-module _ {image : List ℕ} {l : Layout} {params : List ℕ} {at : ℕ} (h : ParamsHere image l params at) where
+module _ {l : Layout} {params : List ℕ} {at : ℕ} (h : ParamsHere l params at) where
   abbrev Whole : Counted (List (Param ResolvedType))
   Whole = resolve_params h.schema h.seen h.tree
 
@@ -37,7 +37,7 @@ module _ {image : List ℕ} {l : Layout} {params : List ℕ} {at : ℕ} (h : Par
   pub record Left (i next : ℕ) (names words lens : List ℕ) : Type 0 where
     pub made : List (Param ResolvedType)
     pub left : List (Param TypeExpr)
-    pub row : Row (ParamStands image l) left next h.behind
+    pub row : Row (ParamStands l) left next h.behind
     pub count : i + length left ≡ length h.tree
     pub large : resolve_params h.schema h.seen left ≡ too_large → Whole ≡ too_large
     pub makes : (w : ℕ) (ts : List (Param ResolvedType)) → resolve_params h.schema h.seen left ≡ done w ts → (v : ℕ) × (Whole ≡ done v (made ++ ts))
@@ -47,11 +47,11 @@ module _ {image : List ℕ} {l : Layout} {params : List ℕ} {at : ℕ} (h : Par
   start names words lens = record { made = []; left = h.tree; row = h.stands.2; count = omega arith; large = λ e. e; makes = λ w ts e. (w, e); table = refl }
 
   module _ {i next : ℕ} {names words lens : List ℕ} (v : Left i next names words lens) where
-    inside_o : (left : List (Param TypeExpr)) → Row (ParamStands image l) left next h.behind → 0 < length left → next < length (pool_words image l)
+    inside_o : (left : List (Param TypeExpr)) → Row (ParamStands l) left next h.behind → 0 < length left → next < length (pool_words l)
     inside_o [] w b = absurd (omega arith)
     inside_o (q ∷ qs) w b = w.1.name_at.inside
 
-    stop_o : (left : List (Param TypeExpr)) → Row (ParamStands image l) left next h.behind → 0 < length left → (s : Substituted) → AnswersAll image l (next + 1) params s → s.ok ≡ false
+    stop_o : (left : List (Param TypeExpr)) → Row (ParamStands l) left next h.behind → 0 < length left → (s : Substituted) → AnswersAll l (next + 1) params s → s.ok ≡ false
         → resolve_params h.schema h.seen left ≡ too_large
     stop_o [] w b s a e = absurd (omega arith)
     stop_o (q ∷ qs) w b s a e =
@@ -59,11 +59,11 @@ module _ {image : List ℕ} {l : Layout} {params : List ℕ} {at : ℕ} (h : Par
 
     module _ (b : i < length h.tree) where
       -- the next one stands in the pool
-      pub turn_inside : next < length (pool_words image l)
+      pub turn_inside : next < length (pool_words l)
       turn_inside = inside_o v.left v.row (omega (arith, v.count))
 
       -- it is too large
-      pub turn_stops : (s : Substituted) → AnswersAll image l (next + 1) params s → s.ok ≡ false → {names' words' lens' : List ℕ} {r : Entered} → r.ok ≡ false
+      pub turn_stops : (s : Substituted) → AnswersAll l (next + 1) params s → s.ok ≡ false → {names' words' lens' : List ℕ} {r : Entered} → r.ok ≡ false
           → EnteredSays l.names.rows Whole h.behind names' words' lens' r
       turn_stops s a e d = says_large (v.large (stop_o v.left v.row (omega (arith, v.count)) s a e)) d
 
@@ -72,10 +72,10 @@ module _ {image : List ℕ} {l : Layout} {params : List ℕ} {at : ℕ} (h : Par
         abbrev Added : ℕ → Type 0
         Added j = (n : ℕ) (ps : List (Param ResolvedType)) (t : ResolvedType) → Rows n names words lens j 0 ps → Holds n s.ty t → Rows n names' words' lens' (j + 1) 0 (ps ++ (record { name = x; ty = t } ∷ []))
 
-        go_o : (left : List (Param TypeExpr)) → Row (ParamStands image l) left next h.behind → i + length left ≡ length h.tree
+        go_o : (left : List (Param TypeExpr)) → Row (ParamStands l) left next h.behind → i + length left ≡ length h.tree
             → (resolve_params h.schema h.seen left ≡ too_large → Whole ≡ too_large)
             → ((w : ℕ) (ts : List (Param ResolvedType)) → resolve_params h.schema h.seen left ≡ done w ts → (u : ℕ) × (Whole ≡ done u (v.made ++ ts)))
-            → AnswersAll image l (next + 1) params s → s.ok ≡ true → x ≡ get_or (pool_words image l) next 0 → Added i → Left (i + 1) s.next names' words' lens'
+            → AnswersAll l (next + 1) params s → s.ok ≡ true → x ≡ get_or (pool_words l) next 0 → Added i → Left (i + 1) s.next names' words' lens'
         go_o [] w c large makes a e g f = absurd (omega arith)
         go_o (q ∷ qs) w c large makes a e g f =
             let k = taken l.names.rows w.0 s (substitute_type h.schema h.seen q.ty) (a h.schema h.opened h.seen h.views q.ty w.0 (expr_here w.1.type_at)) e in
@@ -83,7 +83,7 @@ module _ {image : List ℕ} {l : Layout} {params : List ℕ} {at : ℕ} (h : Par
             record {
               made = v.made ++ (p ∷ []);
               left = qs;
-              row = subst (λ (n : ℕ). Row (ParamStands image l) qs n h.behind) (sym k.next) w.2;
+              row = subst (λ (n : ℕ). Row (ParamStands l) qs n h.behind) (sym k.next) w.2;
               count = omega (arith, c);
               large = λ z. large (others_large h.schema h.seen q qs k.is z);
               makes = λ u ts z.
@@ -94,13 +94,13 @@ module _ {image : List ℕ} {l : Layout} {params : List ℕ} {at : ℕ} (h : Par
             }
 
         -- it is entered
-        pub turn_goes : (j : ℕ) → AnswersAll image l (next + 1) params s → s.ok ≡ true → x ≡ get_or (pool_words image l) next 0 → Added j → j ≡ i → Left (i + 1) s.next names' words' lens'
+        pub turn_goes : (j : ℕ) → AnswersAll l (next + 1) params s → s.ok ≡ true → x ≡ get_or (pool_words l) next 0 → Added j → j ≡ i → Left (i + 1) s.next names' words' lens'
         turn_goes j a e g f q = go_o v.left v.row v.count v.large v.makes a e g (subst (λ (k : ℕ). Added k) q f)
 
     abbrev End : Type 0
     End = EnteredSays l.names.rows Whole h.behind names words lens (record { ok = true; count = i; next = next })
 
-    end_o : (left : List (Param TypeExpr)) → Row (ParamStands image l) left next h.behind → length left ≡ 0
+    end_o : (left : List (Param TypeExpr)) → Row (ParamStands l) left next h.behind → length left ≡ 0
         → ((w : ℕ) (ts : List (Param ResolvedType)) → resolve_params h.schema h.seen left ≡ done w ts → (u : ℕ) × (Whole ≡ done u (v.made ++ ts))) → End
     end_o (q ∷ qs) w z makes = absurd (omega arith)
     end_o [] w z makes =

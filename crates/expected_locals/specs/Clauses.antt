@@ -15,9 +15,9 @@ use Rattle.expected_locals.specs.Entered.{EnteredSays}
 use Rattle.expected_locals.specs.declared.Entered.{Entered}
 
 -- the parameters resolved and in the table, or not ok where a bound is passed
-abbrev pub EntersParams : List ℕ → Layout → ℕ → List ℕ → List ℕ → List ℕ → List ℕ → Entered → Type 0
-EntersParams image l at params names' words' lens' r =
-    (h : ParamsHere image l params at) → EnteredSays l.names.rows (resolve_params h.schema h.seen h.tree) h.behind names' words' lens' r
+abbrev pub EntersParams : Layout → ℕ → List ℕ → List ℕ → List ℕ → List ℕ → Entered → Type 0
+EntersParams l at params names' words' lens' r =
+    (h : ParamsHere l params at) → EnteredSays l.names.rows (resolve_params h.schema h.seen h.tree) h.behind names' words' lens' r
 
 -- the words of the parameter in row i
 abbrev pub PutsParam : List ℕ → List ℕ → List ℕ → ℕ → List ℕ → List ℕ → ℕ → ℕ → ℕ → Type 0

@@ -36,23 +36,22 @@ pub struct Returned {
 
 // A trait function's parameters, substituted: a row of the table for each.
 pub fn enter_params(
-    image: &[u8],
-    l: Layout,
+    l: &Layout,
     at: usize,
     params: &[u32],
     names: &mut [u32],
     words: &mut [u32],
     lens: &mut [u32],
 ) -> Entered
-    requires { Cut image.now l × ParamsHere image.now l params.now at × (64 ≤ length names.old) × (4096 ≤ length words.old) × (64 ≤ length lens.old) }
-    ensures { EntersParams image.now l at params.now names.new words.new lens.new result }
+    requires { Cut l.now × ParamsHere l.now params.now at × (64 ≤ length names.old) × (4096 ≤ length words.old) × (64 ≤ length lens.old) }
+    ensures { EntersParams l.now at params.now names.new words.new lens.new result }
 {
     let pool = l.pool;
-    let count = image_words::section_word(image, pool, at) as usize;
+    let count = image_words::section_word(pool, at) as usize;
     let mut next = at + 1;
     let mut i = 0;
     while i < count {
-        let s = subst::whole::substitute(image, l, next + 1, params);
+        let s = subst::whole::substitute(l, next + 1, params);
         if !s.ok {
             return Entered {
                 ok: false,
@@ -61,7 +60,7 @@ pub fn enter_params(
             };
         }
         let ty = s.ty;
-        let name = NameId(image_words::section_word(image, pool, next));
+        let name = NameId(image_words::section_word(pool, next));
         locals::add_local(names, words, lens, i, name, ty);
         next = s.next;
         i += 1;
@@ -85,12 +84,12 @@ fn as_return(ty: HeldType, next: usize) -> Returned
 }
 
 // A trait function's return, substituted: 0 none, 1 a resolved type, 2 a type expression.
-pub fn enter_return(image: &[u8], l: Layout, at: usize, params: &[u32]) -> Returned
-    requires { Cut image.now l × ReturnHere image.now l params.now at }
-    ensures { (h : ReturnHere image.now l params.now at) → ReturnedSays l.names.rows (resolve_return h.schema h.seen h.tree) h.behind result }
+pub fn enter_return(l: &Layout, at: usize, params: &[u32]) -> Returned
+    requires { Cut l.now × ReturnHere l.now params.now at }
+    ensures { (h : ReturnHere l.now params.now at) → ReturnedSays l.now.names.rows (resolve_return h.schema h.seen h.tree) h.behind result }
 {
     let pool = l.pool;
-    let form = image_words::section_word(image, pool, at);
+    let form = image_words::section_word(pool, at);
     if form == 0 {
         return Returned {
             ok: true,
@@ -99,11 +98,11 @@ pub fn enter_return(image: &[u8], l: Layout, at: usize, params: &[u32]) -> Retur
         };
     }
     if form == 1 {
-        let h = type_from_pool::hold_type(image, l, at + 1);
+        let h = type_from_pool::hold_type(l, at + 1);
         let ty = h.ty;
         return as_return(ty, h.next);
     }
-    let s = subst::whole::substitute(image, l, at + 1, params);
+    let s = subst::whole::substitute(l, at + 1, params);
     if !s.ok {
         return Returned {
             ok: false,

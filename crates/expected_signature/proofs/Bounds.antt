@@ -16,8 +16,8 @@ use Rattle.expected_signature.specs.Parts.{normal_words, normal_poisoned}
 use Rattle.expected_signature.proofs.Says.{Made}
 use Rattle.expected_signature.proofs.Sizes.{params_small, return_small}
 
-module _ {image : List ℕ} {l : Layout} {params : List ℕ} {at : ℕ} where
-  abbrev pub params_of : FunctionHere image l params at → ParamsHere image l params (at + 1)
+module _ {l : Layout} {params : List ℕ} {at : ℕ} where
+  abbrev pub params_of : FunctionHere l params at → ParamsHere l params (at + 1)
   params_of h = record {
     schema = h.schema;
     opened = h.opened;
@@ -28,7 +28,7 @@ module _ {image : List ℕ} {l : Layout} {params : List ℕ} {at : ℕ} where
     stands = h.stands.parts.params_at;
   }
 
-  abbrev pub return_of : (h : FunctionHere image l params at) {n : ℕ} → n ≡ h.stands.parts.params_end → ReturnHere image l params n
+  abbrev pub return_of : (h : FunctionHere l params at) {n : ℕ} → n ≡ h.stands.parts.params_end → ReturnHere l params n
   return_of h e = record {
     schema = h.schema;
     opened = h.opened;
@@ -36,10 +36,10 @@ module _ {image : List ℕ} {l : Layout} {params : List ℕ} {at : ℕ} where
     views = h.views;
     tree = h.tree.return_type;
     behind = h.behind;
-    stands = subst (λ (k : ℕ). TraitReturnAt l.names.rows (pool_words image l) h.tree.return_type k h.behind) (sym e) h.stands.parts.return_at;
+    stands = subst (λ (k : ℕ). TraitReturnAt l.names.rows (pool_words l) h.tree.return_type k h.behind) (sym e) h.stands.parts.return_at;
   }
 
-  pub params_bound : (h : ParamsHere image l params at) {to : ℕ} {old new : List ℕ} {r : Part}
+  pub params_bound : (h : ParamsHere l params at) {to : ℕ} {old new : List ℕ} {r : Part}
       → Made (listed param_words) poisoned_params (resolve_params h.schema h.seen h.tree) h.behind to old new r → (r.visits ≤ 32768) × (r.to ≤ to + 8324)
   unfolding listed
   params_bound h m =

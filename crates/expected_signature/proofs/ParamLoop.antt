@@ -87,12 +87,12 @@ prepend_end : (schema : CompiledSchema) (ps : List (Param ResolvedType)) (u : �
 unfolding prepend after
 prepend_end schema ps u xs = ap (prepend u xs) (resolve_none schema ps) ∙ ap₂ (λ (n : ℕ) (l : List (Param ResolvedType)). done n l) (add-zero u) (append-nil xs)
 
-module _ {image : List ℕ} {l : Layout} {params : List ℕ} {at : ℕ} (h : ParamsHere image l params at) (from : ℕ) (old : List ℕ) where
+module _ {l : Layout} {params : List ℕ} {at : ℕ} (h : ParamsHere l params at) (from : ℕ) (old : List ℕ) where
   -- i of them are made: their visits, whether one is poisoned, and their words from `from` on; what is left decides
   pub record Left (i next place visits : ℕ) (poisoned : Bool) (new : List ℕ) : Type 0 where
     pub made : List (Param ResolvedType)
     pub left : List (Param TypeExpr)
-    pub row : Row (ParamStands image l) left next h.behind
+    pub row : Row (ParamStands l) left next h.behind
     pub count : i + length left ≡ length h.tree
     pub counted : length made ≡ i
     pub so : resolve_params h.schema h.seen h.tree ≡ prepend visits made (resolve_params h.schema h.seen left)
@@ -116,21 +116,21 @@ module _ {image : List ℕ} {l : Layout} {params : List ℕ} {at : ℕ} (h : Par
     writes = writes_none;
   }
 
-  here_o : {next : ℕ} (left : List (Param TypeExpr)) → Row (ParamStands image l) left next h.behind → 0 < length left → ParamHere image l params next
+  here_o : {next : ℕ} (left : List (Param TypeExpr)) → Row (ParamStands l) left next h.behind → 0 < length left → ParamHere l params next
   here_o [] r b = absurd (omega arith)
   here_o (q ∷ qs) r b = record { schema = h.schema; opened = h.opened; seen = h.seen; views = h.views; tree = q; behind = r.0; stands = r.1 }
 
   module _ {i next place visits : ℕ} {poisoned : Bool} {new : List ℕ} (v : Left i next place visits poisoned new) where
     module _ (b : i < length h.tree) where
       -- the next one stands there
-      pub turn_here : ParamHere image l params next
+      pub turn_here : ParamHere l params next
       turn_here = here_o v.left v.row (omega (arith, v.count))
 
       -- what is said of it
       abbrev Said : List ℕ → Part → Type 0
-      Said newer r = (k : ParamHere image l params next) → PartSays param_words poisoned_param (resolve_param k.schema k.seen k.tree) k.behind place new newer r
+      Said newer r = (k : ParamHere l params next) → PartSays param_words poisoned_param (resolve_param k.schema k.seen k.tree) k.behind place new newer r
 
-      stop_o : (left : List (Param TypeExpr)) → Row (ParamStands image l) left next h.behind → 0 < length left → {newer : List ℕ} {r : Part} → Said newer r → r.ok ≡ false
+      stop_o : (left : List (Param TypeExpr)) → Row (ParamStands l) left next h.behind → 0 < length left → {newer : List ℕ} {r : Part} → Said newer r → r.ok ≡ false
           → resolve_params h.schema h.seen left ≡ too_large
       stop_o [] w b p e = absurd (omega arith)
       stop_o (q ∷ qs) w b p e = params_large h.schema h.seen q qs
@@ -141,7 +141,7 @@ module _ {image : List ℕ} {l : Layout} {params : List ℕ} {at : ℕ} (h : Par
       turn_stops p e =
           says_large (v.so ∙ prepend_large visits v.made _ (stop_o v.left v.row (omega (arith, v.count)) p e)) e
 
-      more_o' : (left : List (Param TypeExpr)) → Row (ParamStands image l) left next h.behind → i + length left ≡ length h.tree
+      more_o' : (left : List (Param TypeExpr)) → Row (ParamStands l) left next h.behind → i + length left ≡ length h.tree
           → resolve_params h.schema h.seen h.tree ≡ prepend visits v.made (resolve_params h.schema h.seen left)
           → {newer : List ℕ} {r : Part} → Said newer r → r.ok ≡ true → Left (i + 1) r.next r.to (visits + r.visits) (poisoned || r.poisoned) newer
       more_o' [] w c s p e = absurd (omega arith)
@@ -152,7 +152,7 @@ module _ {image : List ℕ} {l : Layout} {params : List ℕ} {at : ℕ} (h : Par
           record {
             made = v.made ++ (m.a ∷ []);
             left = qs;
-            row = subst (λ (n : ℕ). Row (ParamStands image l) qs n h.behind) (sym m.so.next) w.2;
+            row = subst (λ (n : ℕ). Row (ParamStands l) qs n h.behind) (sym m.so.next) w.2;
             count = omega (arith, c);
             counted = length-append v.made (m.a ∷ []) ∙ (let k : length v.made + 1 ≡ i + 1 = omega (arith, v.counted) in k);
             so = s ∙ ap (prepend visits v.made) (params_more h.schema h.seen q qs m.is) ∙ prepend_o visits m.v v.made m.a _
@@ -167,12 +167,12 @@ module _ {image : List ℕ} {l : Layout} {params : List ℕ} {at : ℕ} (h : Par
       turn_goes p e = more_o' v.left v.row v.count v.so p e
 
     -- behind their count, written before
-    module _ {w to : ℕ} {first : List ℕ} (counts : w ≡ get_or (pool_words image l) at 0) (count_written : Writes (w ∷ []) to from first old) where
+    module _ {w to : ℕ} {first : List ℕ} (counts : w ≡ get_or (pool_words l) at 0) (count_written : Writes (w ∷ []) to from first old) where
       abbrev End : Type 0
       End = PartSays (listed param_words) poisoned_params (resolve_params h.schema h.seen h.tree) h.behind to first new
           (record { ok = true; poisoned = poisoned; next = next; to = place; visits = visits })
 
-      end_o : (left : List (Param TypeExpr)) → Row (ParamStands image l) left next h.behind → length left ≡ 0
+      end_o : (left : List (Param TypeExpr)) → Row (ParamStands l) left next h.behind → length left ≡ 0
           → resolve_params h.schema h.seen h.tree ≡ prepend visits v.made (resolve_params h.schema h.seen left) → w ≡ length v.made → End
       unfolding listed
       end_o (q ∷ qs) r z s c = absurd (omega arith)

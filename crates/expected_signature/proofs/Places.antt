@@ -8,7 +8,6 @@ use lib.ListN.{length}
 use Rattle.rules.specs.Syntax.{ResolvedType, TypeExpr}
 use Rattle.rules.specs.Substitute.{Counted, too_large, done}
 use Rattle.image_words.proofs.Steps.{true_false}
-use Rattle.image_words.proofs.Sections.{length_section}
 use Rattle.image_layout.specs.declared.Layout.{Layout}
 use Rattle.image_layout.specs.Rows.{Inside}
 use Rattle.image_layout.specs.Open.{pool_words}
@@ -18,8 +17,8 @@ use Rattle.type_from_pool.specs.Held.{ExprStands}
 use Rattle.subst.specs.declared.whole.Substituted.{Substituted}
 use Rattle.subst.specs.Answers.{Answers}
 
-pub pool_small : {image : List ℕ} {l : Layout} → Inside image l → {at : ℕ} → at < length (pool_words image l) → at < 65536
-pool_small i h = omega (arith, length_section i.pool, i.pool.fits, i.small)
+pub pool_small : {l : Layout} → Inside l → {at : ℕ} → at < length (pool_words l) → at < 65536
+pool_small i h = omega (arith, i.pool.fits, i.small)
 
 pub expr_here : {names : ℕ} {ws : List ℕ} {e : TypeExpr} {at n : ℕ} → TypeExprStands names ws e at n → ExprStands names ws e at n
 expr_here h = record { run_at = h.words_at; stored = h.good }

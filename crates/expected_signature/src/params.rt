@@ -9,23 +9,22 @@ use image_layout::Layout;
 
 // A name, and its type substituted.
 pub fn resolve_param(
-    image: &[u8],
-    l: Layout,
+    l: &Layout,
     at: usize,
     params: &[u32],
     out: &mut [u8],
     to: usize,
 ) -> Part
-    requires { Cut image.now l × ParamHere image.now l params.now at × (to ≤ 800000000) }
-    ensures { ResolvesParam image.now l at params.now out.old out.new to result }
+    requires { Cut l.now × ParamHere l.now params.now at × (to ≤ 800000000) }
+    ensures { ResolvesParam l.now at params.now out.old out.new to result }
 {
-    let s = subst::whole::substitute(image, l, at + 1, params);
+    let s = subst::whole::substitute(l, at + 1, params);
     if !s.ok {
         return crate::part::too_large();
     }
     let pool = l.pool;
     let ty = s.ty;
-    let a = answers::output::put(out, to, image_words::section_word(image, pool, at));
+    let a = answers::output::put(out, to, image_words::section_word(pool, at));
     let b = answers::output::put_type(out, a, ty);
     Part {
         ok: true,
@@ -38,25 +37,24 @@ pub fn resolve_param(
 
 // Their count, and each one.
 pub fn resolve_params(
-    image: &[u8],
-    l: Layout,
+    l: &Layout,
     at: usize,
     params: &[u32],
     out: &mut [u8],
     to: usize,
 ) -> Part
-    requires { Cut image.now l × ParamsHere image.now l params.now at × (to ≤ 700000000) }
-    ensures { ResolvesParams image.now l at params.now out.old out.new to result }
+    requires { Cut l.now × ParamsHere l.now params.now at × (to ≤ 700000000) }
+    ensures { ResolvesParams l.now at params.now out.old out.new to result }
 {
     let pool = l.pool;
-    let count = image_words::section_word(image, pool, at);
+    let count = image_words::section_word(pool, at);
     let mut place = answers::output::put(out, to, count);
     let mut poisoned = false;
     let mut visits = 0;
     let mut next = at + 1;
     let mut i = 0;
     while i < count {
-        let p = resolve_param(image, l, next, params, out, place);
+        let p = resolve_param(l, next, params, out, place);
         if !p.ok {
             return p;
         }

@@ -42,27 +42,26 @@ fn put_return(out: &mut [u8], to: usize, t: MaybeType, next: usize, visits: u32)
 
 // 0 none, 1 a resolved type, which takes no visit, 2 a type expression.
 pub fn resolve_return(
-    image: &[u8],
-    l: Layout,
+    l: &Layout,
     at: usize,
     params: &[u32],
     out: &mut [u8],
     to: usize,
 ) -> Part
-    requires { Cut image.now l × ReturnHere image.now l params.now at × (to ≤ 800000000) }
-    ensures { ResolvesReturn image.now l at params.now out.old out.new to result }
+    requires { Cut l.now × ReturnHere l.now params.now at × (to ≤ 800000000) }
+    ensures { ResolvesReturn l.now at params.now out.old out.new to result }
 {
     let pool = l.pool;
-    let form = image_words::section_word(image, pool, at);
+    let form = image_words::section_word(pool, at);
     if form == 0 {
         return put_return(out, to, MaybeType::none(), at + 1, 0);
     }
     if form == 1 {
-        let h = type_from_pool::hold_type(image, l, at + 1);
+        let h = type_from_pool::hold_type(l, at + 1);
         let ty = h.ty;
         return put_return(out, to, MaybeType::some(ty), h.next, 0);
     }
-    let s = subst::whole::substitute(image, l, at + 1, params);
+    let s = subst::whole::substitute(l, at + 1, params);
     if !s.ok {
         return crate::part::too_large();
     }

@@ -9,25 +9,24 @@ use image_layout::Layout;
 
 // A name, the parameters and the return.
 pub fn resolve_signature(
-    image: &[u8],
-    l: Layout,
+    l: &Layout,
     at: usize,
     params: &[u32],
     out: &mut [u8],
     to: usize,
 ) -> Part
-    requires { Cut image.now l × FunctionHere image.now l params.now at × (to ≤ 600000000) }
-    ensures { ResolvesSignature image.now l at params.now out.old out.new to result }
+    requires { Cut l.now × FunctionHere l.now params.now at × (to ≤ 600000000) }
+    ensures { ResolvesSignature l.now at params.now out.old out.new to result }
 {
     let pool = l.pool;
-    let a = answers::output::put(out, to, image_words::section_word(image, pool, at));
-    let p = crate::params::resolve_params(image, l, at + 1, params, out, a);
+    let a = answers::output::put(out, to, image_words::section_word(pool, at));
+    let p = crate::params::resolve_params(l, at + 1, params, out, a);
     if !p.ok {
         return p;
     }
     let m = p.next;
     let b = p.to;
-    let t = crate::returns::resolve_return(image, l, m, params, out, b);
+    let t = crate::returns::resolve_return(l, m, params, out, b);
     if !t.ok {
         return t;
     }

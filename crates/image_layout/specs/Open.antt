@@ -32,29 +32,29 @@ DefinitionStands names strings pool kind start (TypeDef.generic_alias a) = (kind
 DefinitionStands names strings pool kind start (TypeDef.trait t) = (kind ≡ DefinitionKind.Trait) × Stored (trait names) pool start t
 DefinitionStands names strings pool kind start (TypeDef.implementation i) = (kind ≡ DefinitionKind.Implementation) × Stored (implementation names strings) pool start i
 
--- over the image and its layout
-module _ (image : List ℕ) (l : Layout) where
+-- over an image by its layout
+module _ (l : Layout) where
   abbrev pub pool_words : List ℕ
-  pool_words = section_words image l.pool
+  pool_words = section_words l.pool.now
 
   -- the words of name row i say n
   pub record NameStands (i : ℕ) (n : Name) : Type 0 where
-    pub text : n.text ≡ take (row_word image l.names i 1) (drop (row_word image l.names i 0) image)
-    pub definition : n.definition ≡ row_word image l.names i 2
-    pub alias : AliasStands l.names.rows pool_words (row_word image l.names i 3) n.alias
+    pub text : n.text ≡ take (row_word l.names i 1) (drop (row_word l.names i 0) l.image.now)
+    pub definition : n.definition ≡ row_word l.names i 2
+    pub alias : AliasStands l.names.rows pool_words (row_word l.names i 3) n.alias
 
   -- the words of string row i say where its text stands
   abbrev pub StringStands : ℕ → List ℕ → Type 0
-  StringStands i text = text ≡ take (row_word image l.strings i 1) (drop (row_word image l.strings i 0) image)
+  StringStands i text = text ≡ take (row_word l.strings i 1) (drop (row_word l.strings i 0) l.image.now)
 
   -- the image is readable, s is its schema, and every row says what s has there
   pub record Open (s : CompiledSchema) : Type 0 where
-    pub inside : Inside image l
-    pub read : readable image ≡ some s
+    pub inside : Inside l
+    pub read : readable l.image.now ≡ some s
     pub names : length s.names ≡ l.names.rows
     pub strings : length s.strings ≡ l.strings.rows
     pub definitions : length s.definitions ≡ l.definitions.rows
     pub name : (i : ℕ) (n : Name) → get_elem? s.names i ≡ some n → NameStands i n
     pub string : (i : ℕ) (text : List ℕ) → get_elem? s.strings i ≡ some text → StringStands i text
     pub definition : (d : ℕ) (t : TypeDef) → get_elem? s.definitions d ≡ some t
-        → DefinitionStands l.names.rows l.strings.rows pool_words (definition_kind (row_word image l.definitions d 0)) (row_word image l.definitions d 1) t
+        → DefinitionStands l.names.rows l.strings.rows pool_words (definition_kind (row_word l.definitions d 0)) (row_word l.definitions d 1) t

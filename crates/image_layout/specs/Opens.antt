@@ -4,6 +4,6 @@ use Rattle.rules.specs.Syntax.{CompiledSchema}
 use Rattle.image_layout.specs.declared.Layout.{Layout}
 use Rattle.image_layout.specs.Open.{Open}
 
-pub record Opens (image : List ℕ) (l : Layout) : Type 0 where
+pub record Opens (l : Layout) : Type 0 where
   pub schema : CompiledSchema
-  pub opened : Open image l schema
+  pub opened : Open l schema

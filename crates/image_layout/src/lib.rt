@@ -1,10 +1,9 @@
-// Where an image's sections lie, and its rows: all that a layer above knows of the image but the pool's words.
+// An image by its sections, and its rows: all that a layer above knows of the image but the pool's words.
 #![tactic(auto)]
 
 ghost use Rattle.std.specs.Prelude.{◌≡◌};
 ghost use Rattle.image_layout.specs.Rows.{Inside, Fits, row_word, IsNameRow, IsStringRow, IsDefinitionRow};
 
-use image_words::Section;
 use rules::ids::{NameId, TypeId};
 use rules::kinds::DefinitionKind;
 
@@ -13,27 +12,21 @@ pub const NOWHERE: u32 = 4294967295;
 
 // A section of rows, each of so many words: how wide a row is, this tells.
 #[derive(Clone, Copy)]
-pub struct Table {
-    pub words: Section,
+pub struct Table<'a> {
+    pub words: &'a [u8],
     pub rows: u32,
     pub width: usize,
 }
 
-// The length of the texts, in bytes, and the sections behind them.
+// An image with the length of its texts, in bytes, and the sections behind them, each a slice of it.
 #[derive(Clone, Copy)]
-pub struct Layout {
+pub struct Layout<'a> {
+    pub image: &'a [u8],
     pub texts: usize,
-    pub names: Table,
-    pub strings: Table,
-    pub pool: Section,
-    pub definitions: Table,
-}
-
-// What a reading of an image comes to: whether the image is readable, and then its layout.
-#[derive(Clone, Copy)]
-pub struct Opened {
-    pub ok: bool,
-    pub layout: Layout,
+    pub names: Table<'a>,
+    pub strings: Table<'a>,
+    pub pool: &'a [u8],
+    pub definitions: Table<'a>,
 }
 
 // A name's row: its text, its definition or NONE, its alias's place in the pool or NONE.
@@ -60,9 +53,9 @@ pub struct DefinitionRow {
 }
 
 // Word k of row i; 0 past the rows.
-fn word_of_row(image: &[u8], t: Table, i: u32, k: usize) -> u32
-    requires { Fits image.now t }
-    ensures { result ≡ row_word image.now t i k }
+fn word_of_row(t: &Table, i: u32, k: usize) -> u32
+    requires { Fits t.now }
+    ensures { result ≡ row_word t.now i k }
 {
     if t.rows <= i {
         return 0;
@@ -70,40 +63,39 @@ fn word_of_row(image: &[u8], t: Table, i: u32, k: usize) -> u32
     if t.width <= k {
         return 0;
     }
-    let s = t.words;
-    image_words::section_word(image, s, t.width * (i as usize) + k)
+    image_words::section_word(t.words, t.width * (i as usize) + k)
 }
 
-pub fn name_row(image: &[u8], l: Layout, x: NameId) -> NameRow
-    requires { Inside image.now l }
-    ensures { IsNameRow image.now l x.0 result }
+pub fn name_row(l: &Layout, x: NameId) -> NameRow
+    requires { Inside l.now }
+    ensures { IsNameRow l.now x.0 result }
 {
-    let t = l.names;
+    let t = &l.names;
     let i = x.0;
     NameRow {
-        start: word_of_row(image, t, i, 0),
-        size: word_of_row(image, t, i, 1),
-        definition: TypeId(word_of_row(image, t, i, 2)),
-        alias: word_of_row(image, t, i, 3),
+        start: word_of_row(t, i, 0),
+        size: word_of_row(t, i, 1),
+        definition: TypeId(word_of_row(t, i, 2)),
+        alias: word_of_row(t, i, 3),
     }
 }
 
-pub fn string_row(image: &[u8], l: Layout, i: u32) -> StringRow
-    requires { Inside image.now l }
-    ensures { IsStringRow image.now l i result }
+pub fn string_row(l: &Layout, i: u32) -> StringRow
+    requires { Inside l.now }
+    ensures { IsStringRow l.now i result }
 {
-    let t = l.strings;
+    let t = &l.strings;
     StringRow {
-        start: word_of_row(image, t, i, 0),
-        size: word_of_row(image, t, i, 1),
+        start: word_of_row(t, i, 0),
+        size: word_of_row(t, i, 1),
     }
 }
 
-pub fn definition_row(image: &[u8], l: Layout, d: TypeId) -> DefinitionRow
-    requires { Inside image.now l }
-    ensures { IsDefinitionRow image.now l d.0 result }
+pub fn definition_row(l: &Layout, d: TypeId) -> DefinitionRow
+    requires { Inside l.now }
+    ensures { IsDefinitionRow l.now d.0 result }
 {
-    let t = l.definitions;
+    let t = &l.definitions;
     let i = d.0;
     if t.rows <= i {
         return DefinitionRow {
@@ -112,7 +104,7 @@ pub fn definition_row(image: &[u8], l: Layout, d: TypeId) -> DefinitionRow
         };
     }
     DefinitionRow {
-        kind: codes::definition_kind(word_of_row(image, t, i, 0)),
-        start: word_of_row(image, t, i, 1),
+        kind: codes::definition_kind(word_of_row(t, i, 0)),
+        start: word_of_row(t, i, 1),
     }
 }

@@ -32,41 +32,41 @@ use Rattle.image_rows.specs.Verdict.{verdict}
 
 -- a word of a row is one of its section's
 module _ (image : List ℕ) (t : Table) (i k : ℕ) (below : i < t.rows) (inside : k < t.width) where
-  pub row_at : row_word image t i k ≡ get_or (section_words image t.words) (t.width * i + k) 0
+  pub row_at : row_word image t i k ≡ get_or (section_words t.words.now) (t.width * i + k) 0
   unfolding row_word
   row_at = rw (lt-ltb i t.rows below, lt-ltb k t.width inside)
 
   step : Fits image t → {A : Type 0} (f : ℕ → Reader A) {at : ℕ} → at ≡ t.width * i + k → {w : ℕ} → w ≡ row_word image t i k → {d : Checked}
-      → Says (f w) (section_words image t.words) (at + 1) d → Says (word >>= f) (section_words image t.words) at d
+      → Says (f w) (section_words t.words.now) (at + 1) d → Says (word >>= f) (section_words t.words.now) at d
   step fits f {at} e {w} q h =
       let l : at < t.words.len = omega (arith, row_inside t.width i t.rows k below inside, fits.whole) in
-      word_then f (word_in fits.lies l) refl (q ∙ row_at ∙ ap (λ (n : ℕ). get_or (section_words image t.words) n 0) (sym e)) h
+      word_then f (word_in fits.lies l) refl (q ∙ row_at ∙ ap (λ (n : ℕ). get_or (section_words t.words.now) n 0) (sym e)) h
 
 -- all words of a row, and then what follows
 module _ {image : List ℕ} {t : Table} (fits : Fits image t) {i : ℕ} (below : i < t.rows) {A : Type 0} {r : Checked} where
   two_then : t.width ≡ 2 → (f : ℕ → ℕ → Reader A) {a b : ℕ} → a ≡ row_word image t i 0 → b ≡ row_word image t i 1
-      → Says (f a b) (section_words image t.words) (t.width * (i + 1)) r → Says (word >>= λ a. word >>= λ b. f a b) (section_words image t.words) (t.width * i) r
+      → Says (f a b) (section_words t.words.now) (t.width * (i + 1)) r → Says (word >>= λ a. word >>= λ b. f a b) (section_words t.words.now) (t.width * i) r
   two_then w f {a} {b} p q h =
       let e : t.width * (i + 1) ≡ t.width * i + 1 + 1 = rw (add-one i) (omega (arith, mul-suc t.width i)) in
       step image t i 0 below (omega arith) fits _ (omega arith) p (step image t i 1 below (omega arith) fits _ (omega arith) q (rw e at h))
 
   four_then : t.width ≡ 4 → (f : ℕ → ℕ → ℕ → ℕ → Reader A) {a b c d : ℕ} → a ≡ row_word image t i 0 → b ≡ row_word image t i 1 → c ≡ row_word image t i 2 → d ≡ row_word image t i 3
-      → Says (f a b c d) (section_words image t.words) (t.width * (i + 1)) r
-      → Says (word >>= λ a. word >>= λ b. word >>= λ c. word >>= λ d. f a b c d) (section_words image t.words) (t.width * i) r
+      → Says (f a b c d) (section_words t.words.now) (t.width * (i + 1)) r
+      → Says (word >>= λ a. word >>= λ b. word >>= λ c. word >>= λ d. f a b c d) (section_words t.words.now) (t.width * i) r
   four_then w f {a} {b} {c} {d} p q u v h =
       let e : t.width * (i + 1) ≡ t.width * i + 1 + 1 + 1 + 1 = rw (add-one i) (omega (arith, mul-suc t.width i)) in
       step image t i 0 below (omega arith) fits _ (omega arith) p (step image t i 1 below (omega arith) fits _ (omega arith) q
       (step image t i 2 below (omega arith) fits _ (omega arith) u (step image t i 3 below (omega arith) fits _ (omega arith) v (rw e at h))))
 
 -- a name's row, and a string's
-pub name_then : {image : List ℕ} {l : Layout} → Cut image l → {i : ℕ} → i < l.names.rows → {row : NameRow} → IsNameRow image l i row → {A : Type 0} (f : ℕ → ℕ → ℕ → ℕ → Reader A) {r : Checked}
-    → Says (f row.start row.size row.definition.0 row.alias) (section_words image l.names.words) (l.names.width * (i + 1)) r
-    → Says (word >>= λ a. word >>= λ b. word >>= λ c. word >>= λ d. f a b c d) (section_words image l.names.words) (l.names.width * i) r
+pub name_then : {l : Layout} → Cut l → {i : ℕ} → i < l.names.rows → {row : NameRow} → IsNameRow l i row → {A : Type 0} (f : ℕ → ℕ → ℕ → ℕ → Reader A) {r : Checked}
+    → Says (f row.start row.size row.definition.0 row.alias) (section_words l.names.words.now) (l.names.width * (i + 1)) r
+    → Says (word >>= λ a. word >>= λ b. word >>= λ c. word >>= λ d. f a b c d) (section_words l.names.words.now) (l.names.width * i) r
 name_then cut below is f h = four_then cut.inside.names below cut.names f is.start is.size is.definition is.alias h
 
-pub string_then : {image : List ℕ} {l : Layout} → Cut image l → {i : ℕ} → i < l.strings.rows → {row : StringRow} → IsStringRow image l i row → {A : Type 0} (f : ℕ → ℕ → Reader A) {r : Checked}
-    → Says (f row.start row.size) (section_words image l.strings.words) (l.strings.width * (i + 1)) r
-    → Says (word >>= λ a. word >>= λ b. f a b) (section_words image l.strings.words) (l.strings.width * i) r
+pub string_then : {l : Layout} → Cut l → {i : ℕ} → i < l.strings.rows → {row : StringRow} → IsStringRow l i row → {A : Type 0} (f : ℕ → ℕ → Reader A) {r : Checked}
+    → Says (f row.start row.size) (section_words l.strings.words.now) (l.strings.width * (i + 1)) r
+    → Says (word >>= λ a. word >>= λ b. f a b) (section_words l.strings.words.now) (l.strings.width * i) r
 string_then cut below is f h = two_then cut.inside.strings below cut.strings f is.start is.size h
 
 -- a refusal says no place
@@ -105,10 +105,10 @@ module _ (image : List ℕ) (texts : ℕ) (pool : List ℕ) (names strings defin
   alias_read n s = simp (ne_eqb start NONE n) (elsewhere some s)
 
 -- a definition's row, by its kind
-pub definition_then : {image : List ℕ} {l : Layout} → Cut image l → {i : ℕ} → i < l.definitions.rows → {row : DefinitionRow} → IsDefinitionRow image l i row
+pub definition_then : {l : Layout} → Cut l → {i : ℕ} → i < l.definitions.rows → {row : DefinitionRow} → IsDefinitionRow l i row
     → {k : DefinitionKind} → row.kind ≡ k → {r : Checked}
-    → Says (definition_node image l.texts (section_words image l.pool) l.names.rows l.strings.rows l.definitions.rows k row.start) (section_words image l.definitions.words) (l.definitions.width * (i + 1)) r
-    → Says (definition_row_of image l) (section_words image l.definitions.words) (l.definitions.width * i) r
+    → Says (definition_node l.texts (section_words l.pool.now) l.names.rows l.strings.rows l.definitions.rows k row.start) (section_words l.definitions.words.now) (l.definitions.width * (i + 1)) r
+    → Says (definition_row_of l) (section_words l.definitions.words.now) (l.definitions.width * i) r
 unfolding definition_row
 definition_then cut below is told h = two_then cut.inside.definitions below cut.definitions _ refl (is.start below) (rw (sym told ∙ is.kind below) at h)
 

@@ -24,29 +24,29 @@ table_of Rows.Names l = l.names
 table_of Rows.Strings l = l.strings
 table_of Rows.Definitions l = l.definitions
 
-abbrev pub reader_of : (which : Rows) → List ℕ → Layout → Reader (Thing which)
-reader_of Rows.Names image l = name_row_of image l
-reader_of Rows.Strings image l = string_row_of image l
-reader_of Rows.Definitions image l = definition_row_of image l
+abbrev pub reader_of : (which : Rows) → Layout → Reader (Thing which)
+reader_of Rows.Names l = name_row_of l
+reader_of Rows.Strings l = string_row_of l
+reader_of Rows.Definitions l = definition_row_of l
 
 -- of row i, up to the next row
-abbrev pub RowSays : Rows → List ℕ → Layout → ℕ → Bool → Type 0
-RowSays which image l i ok =
+abbrev pub RowSays : Rows → Layout → ℕ → Bool → Type 0
+RowSays which l i ok =
     let t = table_of which l in
-    Says (reader_of which image l) (section_words image t.words) (t.width * i) (verdict ok (t.width * (i + 1)))
+    Says (reader_of which l) (section_words t.words.now) (t.width * i) (verdict ok (t.width * (i + 1)))
 
 -- of all of them
-abbrev pub RowsSay : Rows → List ℕ → Layout → Bool → Type 0
-RowsSay which image l ok =
+abbrev pub RowsSay : Rows → Layout → Bool → Type 0
+RowsSay which l ok =
     let t = table_of which l in
-    Says (times t.rows (reader_of which image l)) (section_words image t.words) 0 (verdict ok (t.width * t.rows))
+    Says (times t.rows (reader_of which l)) (section_words t.words.now) 0 (verdict ok (t.width * t.rows))
 
-module _ (image : List ℕ) (l : Layout) where
+module _ (l : Layout) where
   abbrev pub NameSays : ℕ → Bool → Type 0
-  NameSays i ok = RowSays Rows.Names image l i ok
+  NameSays i ok = RowSays Rows.Names l i ok
 
   abbrev pub StringSays : ℕ → Bool → Type 0
-  StringSays i ok = RowSays Rows.Strings image l i ok
+  StringSays i ok = RowSays Rows.Strings l i ok
 
   abbrev pub DefinitionSays : ℕ → Bool → Type 0
-  DefinitionSays i ok = RowSays Rows.Definitions image l i ok
+  DefinitionSays i ok = RowSays Rows.Definitions l i ok

@@ -8,11 +8,11 @@ use rules::ids::TypeId;
 use rules::kinds::DefinitionKind;
 
 // A kind, and a body of that kind where the row says.
-pub fn check_definition_row(image: &[u8], l: Layout, i: TypeId) -> bool
-    requires { Cut image.now l × (i.0 < l.definitions.rows) }
-    ensures { DefinitionSays image.now l i.0 result }
+pub fn check_definition_row(l: &Layout, i: TypeId) -> bool
+    requires { Cut l.now × (i.0 < l.now.definitions.rows) }
+    ensures { DefinitionSays l.now i.0 result }
 {
-    let row = image_layout::definition_row(image, l, i);
+    let row = image_layout::definition_row(l, i);
     let kind = row.kind;
     let start = row.start as usize;
     let pool = l.pool;
@@ -20,20 +20,19 @@ pub fn check_definition_row(image: &[u8], l: Layout, i: TypeId) -> bool
     match kind {
         DefinitionKind::Other => true,
         DefinitionKind::Message => {
-            let c = pool_definitions::messages::check_message(image, pool, start, names);
+            let c = pool_definitions::messages::check_message(pool, start, names);
             c.ok
         }
         DefinitionKind::GenericAlias => {
-            let c = pool_definitions::messages::check_generic_alias(image, pool, start, names);
+            let c = pool_definitions::messages::check_generic_alias(pool, start, names);
             c.ok
         }
         DefinitionKind::Trait => {
-            let c = pool_traits::check_trait(image, pool, start, names);
+            let c = pool_traits::check_trait(pool, start, names);
             c.ok
         }
         DefinitionKind::Implementation => {
             let c = pool_definitions::implementations::check_implementation(
-                image,
                 pool,
                 start,
                 names,

@@ -20,7 +20,7 @@ pub enum Rows {
 }
 
 // How many there are.
-fn count(which: Rows, l: Layout) -> u32
+fn count(which: Rows, l: &Layout) -> u32
     ensures { result ≡ (table_of which l).rows }
 {
     match which {
@@ -31,26 +31,26 @@ fn count(which: Rows, l: Layout) -> u32
 }
 
 // One of them.
-fn check_row(which: Rows, image: &[u8], l: Layout, i: u32) -> bool
-    requires { Cut image.now l × (i < (table_of which l).rows) }
-    ensures { RowSays which image.now l i result }
+fn check_row(which: Rows, l: &Layout, i: u32) -> bool
+    requires { Cut l.now × (i < (table_of which l).rows) }
+    ensures { RowSays which l.now i result }
 {
     match which {
-        Rows::Names => names::check_name_row(image, l, NameId(i)),
-        Rows::Strings => strings::check_string_row(image, l, i),
-        Rows::Definitions => definitions::check_definition_row(image, l, TypeId(i)),
+        Rows::Names => names::check_name_row(l, NameId(i)),
+        Rows::Strings => strings::check_string_row(l, i),
+        Rows::Definitions => definitions::check_definition_row(l, TypeId(i)),
     }
 }
 
 // All of them.
-pub fn check_rows(which: Rows, image: &[u8], l: Layout) -> bool
-    requires { Cut image.now l }
-    ensures { RowsSay which image.now l result }
+pub fn check_rows(which: Rows, l: &Layout) -> bool
+    requires { Cut l.now }
+    ensures { RowsSay which l.now result }
 {
     let n = count(which, l);
     let mut i = 0;
     while i < n {
-        if !check_row(which, image, l, i) {
+        if !check_row(which, l, i) {
             return false;
         }
         i += 1;

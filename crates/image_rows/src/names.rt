@@ -8,11 +8,11 @@ use rules::bounds::TEXT_BYTES;
 use rules::ids::{NameId, TypeId};
 
 // A text of 1 to 255 bytes inside the texts, well-formed by itself; a definition that exists or NONE; an alias's type or NONE.
-pub fn check_name_row(image: &[u8], l: Layout, i: NameId) -> bool
-    requires { Cut image.now l × (i.0 < l.names.rows) }
-    ensures { NameSays image.now l i.0 result }
+pub fn check_name_row(l: &Layout, i: NameId) -> bool
+    requires { Cut l.now × (i.0 < l.now.names.rows) }
+    ensures { NameSays l.now i.0 result }
 {
-    let row = image_layout::name_row(image, l, i);
+    let row = image_layout::name_row(l, i);
     let texts = l.texts;
     let start = row.start as usize;
     let size = row.size as usize;
@@ -34,6 +34,6 @@ pub fn check_name_row(image: &[u8], l: Layout, i: NameId) -> bool
         return true;
     }
     let pool = l.pool;
-    let a = pool_types::resolved::check_type(image, pool, row.alias as usize, l.names.rows);
+    let a = pool_types::resolved::check_type(pool, row.alias as usize, l.names.rows);
     a.ok
 }

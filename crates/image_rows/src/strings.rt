@@ -6,11 +6,11 @@ ghost use Rattle.image_rows.specs.Verdict.{StringSays};
 use image_layout::Layout;
 
 // A text inside the texts, of any length, well-formed by itself.
-pub fn check_string_row(image: &[u8], l: Layout, i: u32) -> bool
-    requires { Cut image.now l × (i < l.strings.rows) }
-    ensures { StringSays image.now l i result }
+pub fn check_string_row(l: &Layout, i: u32) -> bool
+    requires { Cut l.now × (i < l.now.strings.rows) }
+    ensures { StringSays l.now i result }
 {
-    let row = image_layout::string_row(image, l, i);
+    let row = image_layout::string_row(l, i);
     let texts = l.texts;
     let start = row.start as usize;
     let end = start + row.size as usize;

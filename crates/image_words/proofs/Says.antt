@@ -10,9 +10,8 @@ use borrow.Author.Tests.{lt-ltb, le-ltb, le-leb, lt-leb}
 use Rattle.rules.specs.Reader.{Rest, rest_at, Reader, ◌>>=◌, bound, give, fail, rule, here, first, word, below, option, maybe, from}
 use Rattle.rules.specs.ReadTypes.{sized}
 use Rattle.image_words.specs.declared.Checked.{Checked}
-use Rattle.image_words.specs.declared.Section.{Section}
-use Rattle.image_words.specs.Verdict.{section_words, Lies, refusal, Agrees, Says, After}
-use Rattle.image_words.proofs.Sections.{length_section, drop_past}
+use Rattle.image_words.specs.Verdict.{refusal, Agrees, Says, After}
+use Rattle.image_words.proofs.Sections.{drop_past}
 use Rattle.image_words.proofs.Steps.{true_false, not_ok, first_in, assoc_o, then_o, stop_o, last_o}
 use Rattle.image_words.proofs.Gives as gives
 use Rattle.image_words.proofs.Gives.{Gives}
@@ -118,14 +117,14 @@ module _ {A : Type 0} (r s : Reader A) {b : Bool} {ws : List ℕ} {at : ℕ} {c 
   either_second e h = rw e h
 
 -- a word by itself
-module _ {image : List ℕ} {s : Section} (lies : Lies image s) {at : ℕ} where
-  pub word_in : at < s.len → Says word (section_words image s) at (record { ok = true; next = at + 1 })
+module _ {ws : List ℕ} {at : ℕ} where
+  pub word_in : at < length ws → Says word ws at (record { ok = true; next = at + 1 })
   unfolding word
-  word_in i = let l : at < length (section_words image s) = omega (arith, length_section lies) in record { is = rw (first_in (section_words image s) at l) (refl, refl) }
+  word_in l = record { is = rw (first_in ws at l) (refl, refl) }
 
-  pub word_out : s.len ≤ at → Says word (section_words image s) at refusal
+  pub word_out : length ws ≤ at → Says word ws at refusal
   unfolding word first
-  word_out i = let l : length (section_words image s) ≤ at = omega (arith, length_section lies) in record { is = rw (drop_past at (section_words image s) l) refl }
+  word_out l = record { is = rw (drop_past at ws l) refl }
 
 -- a word that was found, as the code read it, and then what follows
 module _ {A : Type 0} (f : ℕ → Reader A) {ws : List ℕ} {at : ℕ} {c : Checked} where

@@ -1,18 +1,13 @@
 -- What the code says of a reading: whether it gives something, and the place behind it.
-use Rattle.std.specs.Prelude.{ℕ, ◌+◌, ◌*◌, ◌≤◌, ◌≡◌, true, false, List, length, take, drop}
+use Rattle.std.specs.Prelude.{ℕ, ◌≡◌, true, false, List}
 use Rattle.std.proofs.Math.Option.{Option, none, some}
 use Rattle.rules.specs.Words.{words}
 use Rattle.rules.specs.Reader.{Rest, rest_at, Reader}
 use Rattle.image_words.specs.declared.Checked.{Checked}
-use Rattle.image_words.specs.declared.Section.{Section}
 
 -- a section's words
-unfoldable pub section_words : List ℕ → Section → List ℕ
-section_words image s = words (take (4 * s.len) (drop s.start image))
-
--- the section lies inside the image
-pub record Lies (image : List ℕ) (s : Section) : Type 0 where
-  pub fits : s.start + 4 * s.len ≤ length image
+unfoldable pub section_words : List ℕ → List ℕ
+section_words section = words section
 
 abbrev pub refusal : Checked
 refusal = record { ok = false; next = 0 }

@@ -1,16 +1,9 @@
-// Words of a section of the image, each found or refused: what every reading of the image is made of.
+// Words of a section of the image, which is a slice of it, each found or refused: what every reading of the image is made of.
 #![tactic(auto)]
 
-ghost use Rattle.std.specs.Prelude.{◌≡◌, ℕ, suc, ◌+◌, ◌-◌, ◌<◌, List, get_or};
+ghost use Rattle.std.specs.Prelude.{◌≡◌, suc, ◌+◌, ◌-◌, ◌<◌, length, get_or};
 ghost use Rattle.rules.specs.Reader.{word, below};
-ghost use Rattle.image_words.specs.Verdict.{section_words, Lies, Says};
-
-// Where a section starts in the image, in bytes, and how many words it has.
-#[derive(Clone, Copy)]
-pub struct Section {
-    pub start: usize,
-    pub len: usize,
-}
+ghost use Rattle.image_words.specs.Verdict.{section_words, Says};
 
 // Whether something readable stands at a place, and the place behind it; 0 where nothing does.
 #[derive(Clone, Copy)]
@@ -26,29 +19,35 @@ pub fn less(a: usize, b: usize) -> usize
     if a < b { 0 } else { a - b }
 }
 
-// The word at a place of a section, or 0 past its end.
-pub fn section_word(image: &[u8], s: Section, at: usize) -> u32
-    requires { Lies image.now s }
-    ensures { result ≡ get_or (section_words image.now s) at 0 }
+// How many words a section has.
+pub fn count(section: &[u8]) -> usize
+    ensures { result ≡ length (section_words section.now) }
 {
-    if s.len <= at {
+    section.len() / 4
+}
+
+// The word at a place of a section, or 0 past its end.
+pub fn section_word(section: &[u8], at: usize) -> u32
+    ensures { result ≡ get_or (section_words section.now) at 0 }
+{
+    if count(section) <= at {
         return 0;
     }
-    words::whole_word(image, s.start + 4 * at)
+    words::whole_word(section, 4 * at)
 }
 
 // The place behind a word of a section.
-pub fn after(s: Section, at: usize) -> usize
-    ensures { at < s.len → result ≡ at + 1 }
+pub fn after(section: &[u8], at: usize) -> usize
+    ensures { at < length (section_words section.now) → result ≡ at + 1 }
 {
-    if at < s.len { at + 1 } else { at }
+    if at < count(section) { at + 1 } else { at }
 }
 
 // Any word.
-pub fn check_word(s: Section, at: usize) -> Checked
-    ensures { (image : List ℕ) → Lies image s → Says word (section_words image s) at result }
+pub fn check_word(section: &[u8], at: usize) -> Checked
+    ensures { Says word (section_words section.now) at result }
 {
-    if s.len <= at {
+    if count(section) <= at {
         return Checked { ok: false, next: 0 };
     }
     Checked {
@@ -58,30 +57,28 @@ pub fn check_word(s: Section, at: usize) -> Checked
 }
 
 // A word under a limit.
-pub fn check_below(image: &[u8], s: Section, at: usize, limit: u32) -> Checked
-    requires { Lies image.now s }
-    ensures { Says (below limit) (section_words image.now s) at result }
+pub fn check_below(section: &[u8], at: usize, limit: u32) -> Checked
+    ensures { Says (below limit) (section_words section.now) at result }
 {
-    let a = check_word(s, at);
+    let a = check_word(section, at);
     if !a.ok {
         return a;
     }
-    if section_word(image, s, at) < limit {
+    if section_word(section, at) < limit {
         return a;
     }
     Checked { ok: false, next: 0 }
 }
 
 // A count, at most `most`.
-pub fn check_count(image: &[u8], s: Section, at: usize, most: u32) -> Checked
-    requires { Lies image.now s }
-    ensures { Says (below (suc most)) (section_words image.now s) at result }
+pub fn check_count(section: &[u8], at: usize, most: u32) -> Checked
+    ensures { Says (below (suc most)) (section_words section.now) at result }
 {
-    let a = check_word(s, at);
+    let a = check_word(section, at);
     if !a.ok {
         return a;
     }
-    if section_word(image, s, at) <= most {
+    if section_word(section, at) <= most {
         return a;
     }
     Checked { ok: false, next: 0 }

@@ -23,23 +23,23 @@ find_tail : (x : ℕ) (f : ImplFnDef) (fs : List ImplFnDef) → (x ≡ f.name �
 unfolding find_function
 find_tail x f fs e = ap {B = Option ImplFnDef} (λ b. elim b as (λ _. Option ImplFnDef) [ true ↦ some f | false ↦ find_function x fs ]) (ne_eqb x f.name e)
 
-module _ (image : List ℕ) (l : Layout) (places : List ℕ) (x : ℕ) (fs : List ImplFnDef) where
+module _ (l : Layout) (places : List ℕ) (x : ℕ) (fs : List ImplFnDef) where
   -- what is found among those that are left is found among all
   abbrev pub Left : ℕ → Type 0
-  Left = Rest (FunctionHere image l) places (λ rest. find_function x rest ≡ find_function x fs)
+  Left = Rest (FunctionHere l) places (λ rest. find_function x rest ≡ find_function x fs)
 
   abbrev FoundHere : Found → Type 0
-  FoundHere = Finds (FunctionHere image l) (find_function x fs)
+  FoundHere = Finds (FunctionHere l) (find_function x fs)
 
   module _ {i : ℕ} (w : Left i) where
-    module _ (b : i < length places) {y : ℕ} (named : (f : ImplFnDef) (m : ℕ) → FunctionHere image l f (get_or places i 0) m → y ≡ f.name) where
+    module _ (b : i < length places) {y : ℕ} (named : (f : ImplFnDef) (m : ℕ) → FunctionHere l f (get_or places i 0) m → y ≡ f.name) where
       pub came : x ≡ y → FoundHere (record { ok = true; start = get_or places i 0 })
       came e = turned _ _ _ w b (λ f gs m q s _.
-          record { is = subst (λ (o : Option ImplFnDef). Agrees (FunctionHere image l) o (record { ok = true; start = get_or places i 0 })) (sym (find_head x f gs (e ∙ named f m q)) ∙ s) (refl, m, q) })
+          record { is = subst (λ (o : Option ImplFnDef). Agrees (FunctionHere l) o (record { ok = true; start = get_or places i 0 })) (sym (find_head x f gs (e ∙ named f m q)) ∙ s) (refl, m, q) })
 
       pub goes : (x ≡ y → ⊥) → Left (i + 1)
       goes e = turned _ _ _ w b (λ f gs m q s r. passed _ _ _ gs r (sym (find_tail x f gs (λ z. e (z ∙ sym (named f m q)))) ∙ s))
 
     pub nowhere : length places ≤ i → FoundHere (record { ok = false; start = 0 })
     unfolding find_function
-    nowhere b = record { is = subst (λ (o : Option ImplFnDef). Agrees (FunctionHere image l) o (record { ok = false; start = 0 })) (ended _ _ _ w b) refl }
+    nowhere b = record { is = subst (λ (o : Option ImplFnDef). Agrees (FunctionHere l) o (record { ok = false; start = 0 })) (ended _ _ _ w b) refl }

@@ -16,13 +16,13 @@ use Rattle.impl_functions.proofs.PlaceTable.{Rest, turned, ended, passed}
 abbrev pub own_names : List ImplFnDef → List ℕ
 own_names fs = map (λ f. f.name) fs
 
-module _ (image : List ℕ) (l : Layout) where
+module _ (l : Layout) where
   -- the names of trait functions, those that are left behind those in the table
   abbrev pub Names : List TraitFnDef → List ℕ → ℕ → ℕ → ℕ → ℕ → Type 0
-  Names ts table n count i next = walk.Left (AskedHere image l) (λ rest. take i table ++ names_of rest ≡ names_of ts) n count i next
+  Names ts table n count i next = walk.Left (AskedHere l) (λ rest. take i table ++ names_of rest ≡ names_of ts) n count i next
 
   module _ (ts : List TraitFnDef) (table : List ℕ) {n count i next : ℕ} (w : Names ts table n count i next) where
-    pub named : i < count → i < length table → {x : ℕ} → ((f : TraitFnDef) (m : ℕ) → AskedHere image l f next m → x ≡ f.name) → {k : ℕ} → ((f : TraitFnDef) (m : ℕ) → AskedHere image l f next m → k ≡ m)
+    pub named : i < count → i < length table → {x : ℕ} → ((f : TraitFnDef) (m : ℕ) → AskedHere l f next m → x ≡ f.name) → {k : ℕ} → ((f : TraitFnDef) (m : ℕ) → AskedHere l f next m → k ≡ m)
         → Names ts (set table i x) n count (i + 1) k
     named b inside {x} name behind = walk.turned _ _ w b (λ f fs m q s r c. walk.left _ _ fs r c (behind f m q)
         (ap (λ (xs : List ℕ). xs ++ names_of fs) (take_more table i x inside) ∙ append_snoc (take i table) x (names_of fs)
@@ -33,10 +33,10 @@ module _ (image : List ℕ) (l : Layout) where
 
   -- the names of an implementation's functions, those that are left behind those in the table
   abbrev pub OwnNames : List ImplFnDef → List ℕ → List ℕ → ℕ → Type 0
-  OwnNames fs places table i = Rest (FunctionHere image l) places (λ rest. take i table ++ own_names rest ≡ own_names fs) i
+  OwnNames fs places table i = Rest (FunctionHere l) places (λ rest. take i table ++ own_names rest ≡ own_names fs) i
 
   module _ (fs : List ImplFnDef) (places table : List ℕ) {i : ℕ} (w : OwnNames fs places table i) where
-    pub own_named : i < length places → i < length table → {x : ℕ} → ((f : ImplFnDef) (m : ℕ) → FunctionHere image l f (get_or places i 0) m → x ≡ f.name) → OwnNames fs places (set table i x) (i + 1)
+    pub own_named : i < length places → i < length table → {x : ℕ} → ((f : ImplFnDef) (m : ℕ) → FunctionHere l f (get_or places i 0) m → x ≡ f.name) → OwnNames fs places (set table i x) (i + 1)
     own_named b inside {x} name = turned _ _ _ w b (λ f rest m q s r. passed _ _ _ rest r
         (ap (λ (xs : List ℕ). xs ++ own_names rest) (take_more table i x inside) ∙ append_snoc (take i table) x (own_names rest)
         ∙ ap (λ (y : ℕ). take i table ++ (y ∷ own_names rest)) (name f m q) ∙ s))

@@ -14,13 +14,13 @@ EachAt Q [] (p ∷ ps) = ⊥
 EachAt Q (x ∷ xs) [] = ⊥
 EachAt Q (x ∷ xs) (p ∷ ps) = (m : ℕ) × Q x p m × EachAt Q xs ps
 
-module _ (image : List ℕ) (l : Layout) where
+module _ (l : Layout) where
   -- an implementation's function, and all of them
   abbrev pub FunctionHere : ImplFnDef → ℕ → ℕ → Type 0
-  FunctionHere = FunctionStands l.names.rows l.strings.rows (pool_words image l)
+  FunctionHere = FunctionStands l.names.rows l.strings.rows (pool_words l)
 
   abbrev pub FunctionsHere : List ImplFnDef → ℕ → ℕ → Type 0
-  FunctionsHere = Counted (pool_words image l) 64 FunctionHere
+  FunctionsHere = Counted (pool_words l) 64 FunctionHere
 
   -- all of them, by a table of their places
   abbrev pub Placed : List ImplFnDef → List ℕ → Type 0
@@ -28,7 +28,7 @@ module _ (image : List ℕ) (l : Layout) where
 
   -- a trait's function, and all of them
   abbrev pub AskedHere : TraitFnDef → ℕ → ℕ → Type 0
-  AskedHere = TraitFunctionStands l.names.rows (pool_words image l)
+  AskedHere = TraitFunctionStands l.names.rows (pool_words l)
 
   abbrev pub AllAskedHere : List TraitFnDef → ℕ → ℕ → Type 0
-  AllAskedHere = Counted (pool_words image l) 64 AskedHere
+  AllAskedHere = Counted (pool_words l) 64 AskedHere

@@ -19,33 +19,33 @@ pub fn few(n: u32) -> usize
 }
 
 // The names of the trait functions at `at`, from the table's start.
-pub fn function_names(image: &[u8], l: Layout, at: usize) -> [u32; FUNCTION_ROWS]
-    requires { Inside image.now l }
-    ensures { (ts : List TraitFnDef) (n : ℕ) → AllAskedHere image.now l ts at n → take (length ts) result ≡ map (λ t. t.name) ts }
+pub fn function_names(l: &Layout, at: usize) -> [u32; FUNCTION_ROWS]
+    requires { Inside l.now }
+    ensures { (ts : List TraitFnDef) (n : ℕ) → AllAskedHere l.now ts at n → take (length ts) result ≡ map (λ t. t.name) ts }
 {
     let pool = l.pool;
-    let count = few(image_words::section_word(image, pool, at));
+    let count = few(image_words::section_word(pool, at));
     let mut names = [0u32; FUNCTION_ROWS];
     let mut i = 0;
     let mut next = image_words::after(pool, at);
     while i < count {
-        let name = crate::places::name_at(image, l, next);
+        let name = crate::places::name_at(l, next);
         names[i] = name.0;
-        next = crate::places::after_asked(image, l, next);
+        next = crate::places::after_asked(l, next);
         i += 1;
     }
     names
 }
 
 // The names of an implementation's functions at these places, from the table's start.
-pub fn own_names(image: &[u8], l: Layout, places: &[usize]) -> [u32; FUNCTION_ROWS]
-    requires { Inside image.now l × (length places.now ≤ 64) }
-    ensures { (fs : List ImplFnDef) → Placed image.now l fs places.now → take (length places.now) result ≡ map (λ f. f.name) fs }
+pub fn own_names(l: &Layout, places: &[usize]) -> [u32; FUNCTION_ROWS]
+    requires { Inside l.now × (length places.now ≤ 64) }
+    ensures { (fs : List ImplFnDef) → Placed l.now fs places.now → take (length places.now) result ≡ map (λ f. f.name) fs }
 {
     let mut names = [0u32; FUNCTION_ROWS];
     let mut i = 0;
     while i < places.len() {
-        let name = crate::places::name_at(image, l, places[i]);
+        let name = crate::places::name_at(l, places[i]);
         names[i] = name.0;
         i += 1;
     }

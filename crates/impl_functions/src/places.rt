@@ -8,29 +8,29 @@ use image_layout::Layout;
 use rules::ids::NameId;
 
 // The name that starts a function, a trait's or an implementation's.
-pub fn name_at(image: &[u8], l: Layout, at: usize) -> NameId
-    requires { Inside image.now l }
-    ensures own { (f : ImplFnDef) (n : ℕ) → FunctionHere image.now l f at n → result.0 ≡ f.name }
-    ensures asked { (f : TraitFnDef) (n : ℕ) → AskedHere image.now l f at n → result.0 ≡ f.name }
+pub fn name_at(l: &Layout, at: usize) -> NameId
+    requires { Inside l.now }
+    ensures own { (f : ImplFnDef) (n : ℕ) → FunctionHere l.now f at n → result.0 ≡ f.name }
+    ensures asked { (f : TraitFnDef) (n : ℕ) → AskedHere l.now f at n → result.0 ≡ f.name }
 {
     let pool = l.pool;
-    NameId(image_words::section_word(image, pool, at))
+    NameId(image_words::section_word(pool, at))
 }
 
 // The place behind an implementation's function.
-pub fn after_function(image: &[u8], l: Layout, at: usize) -> usize
-    requires { Inside image.now l }
-    ensures { (f : ImplFnDef) (n : ℕ) → FunctionHere image.now l f at n → result ≡ n }
+pub fn after_function(l: &Layout, at: usize) -> usize
+    requires { Inside l.now }
+    ensures { (f : ImplFnDef) (n : ℕ) → FunctionHere l.now f at n → result ≡ n }
 {
     let pool = l.pool;
-    skip_functions::functions::skip_function(image, pool, at)
+    skip_functions::functions::skip_function(pool, at)
 }
 
 // The place behind a trait's function.
-pub fn after_asked(image: &[u8], l: Layout, at: usize) -> usize
-    requires { Inside image.now l }
-    ensures { (f : TraitFnDef) (n : ℕ) → AskedHere image.now l f at n → result ≡ n }
+pub fn after_asked(l: &Layout, at: usize) -> usize
+    requires { Inside l.now }
+    ensures { (f : TraitFnDef) (n : ℕ) → AskedHere l.now f at n → result ≡ n }
 {
     let pool = l.pool;
-    skip_functions::functions::skip_trait_function(image, pool, at)
+    skip_functions::functions::skip_trait_function(pool, at)
 }

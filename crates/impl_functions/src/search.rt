@@ -11,14 +11,14 @@ use impl_rows::find::Found;
 use rules::ids::NameId;
 
 // Where the function of this name stands, of those at these places.
-pub fn find_function(image: &[u8], l: Layout, places: &[usize], x: NameId) -> Found
-    requires { Inside image.now l }
-    ensures { (fs : List ImplFnDef) → Placed image.now l fs places.now → Finds (FunctionHere image.now l) (find_function x.0 fs) result }
+pub fn find_function(l: &Layout, places: &[usize], x: NameId) -> Found
+    requires { Inside l.now }
+    ensures { (fs : List ImplFnDef) → Placed l.now fs places.now → Finds (FunctionHere l.now) (find_function x.0 fs) result }
 {
     let mut i = 0;
     while i < places.len() {
         let place = places[i];
-        let name = crate::places::name_at(image, l, place);
+        let name = crate::places::name_at(l, place);
         if x.0 == name.0 {
             return Found {
                 ok: true,

@@ -8,18 +8,18 @@ use image_layout::Layout;
 use rules::bounds::FUNCTION_ROWS;
 
 // The places of the functions at `at`, from the table's start.
-pub fn function_places(image: &[u8], l: Layout, at: usize) -> [usize; FUNCTION_ROWS]
-    requires { Inside image.now l }
-    ensures { (fs : List ImplFnDef) (n : ℕ) → FunctionsHere image.now l fs at n → Placed image.now l fs (take (length fs) result) }
+pub fn function_places(l: &Layout, at: usize) -> [usize; FUNCTION_ROWS]
+    requires { Inside l.now }
+    ensures { (fs : List ImplFnDef) (n : ℕ) → FunctionsHere l.now fs at n → Placed l.now fs (take (length fs) result) }
 {
     let pool = l.pool;
-    let count = crate::names::few(image_words::section_word(image, pool, at));
+    let count = crate::names::few(image_words::section_word(pool, at));
     let mut places = [0usize; FUNCTION_ROWS];
     let mut i = 0;
     let mut next = image_words::after(pool, at);
     while i < count {
         places[i] = next;
-        next = crate::places::after_function(image, l, next);
+        next = crate::places::after_function(l, next);
         i += 1;
     }
     places

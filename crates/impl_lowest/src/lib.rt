@@ -11,14 +11,14 @@ use image_layout::Layout;
 use rules::ids::TypeId;
 
 // The first row of an implementation; 0 if there is none.
-fn lowest_row(image: &[u8], l: Layout) -> TypeId
-    requires { Inside image.now l }
-    ensures { (s : CompiledSchema) → Open image.now l s → result.0 ≡ lowest_from 0 s.definitions }
+fn lowest_row(l: &Layout) -> TypeId
+    requires { Inside l.now }
+    ensures { (s : CompiledSchema) → Open l.now s → result.0 ≡ lowest_from 0 s.definitions }
 {
     let rows = l.definitions.rows;
     let mut row: u32 = 0;
     while row < rows {
-        let found = impl_rows::find::find_implementation(image, l, TypeId(row));
+        let found = impl_rows::find::find_implementation(l, TypeId(row));
         if found.ok {
             return TypeId(row);
         }
@@ -36,5 +36,5 @@ pub fn lowest_implementation(image: &[u8]) -> TypeId
         return TypeId(0);
     }
     let l = o.layout;
-    lowest_row(image, l)
+    lowest_row(l)
 }

@@ -26,15 +26,15 @@ take_one xs i b = ap (λ (k : ℕ). take k xs) (add-one i) ∙ take-suc xs i 0 b
 passes : {test last : Result (Unit {0})} {r : Outcome} → last ≡ test → PassesAgrees last r → Passes test r
 passes {r = r} e a = record { is = subst (λ (t : Result (Unit {0})). PassesAgrees t r) e a }
 
-module _ (image : List ℕ) (l : Layout) where
+module _ (l : Layout) where
   -- over the places of an implementation's functions: a test of them by their names, under those in some list
   module _ (places : List ℕ) where
     module _ (test : List ℕ → List ImplFnDef → Result (Unit {0})) (whole : Result (Unit {0})) where
       abbrev pub Tested : List ℕ → ℕ → Type 0
-      Tested xs = Rest (FunctionHere image l) places (λ rest. test xs rest ≡ whole)
+      Tested xs = Rest (FunctionHere l) places (λ rest. test xs rest ≡ whole)
 
     abbrev pub NameAt : ℕ → ℕ → Type 0
-    NameAt place x = (f : ImplFnDef) (m : ℕ) → FunctionHere image l f place m → x ≡ f.name
+    NameAt place x = (f : ImplFnDef) (m : ℕ) → FunctionHere l f place m → x ≡ f.name
 
     module _ (whole : Result (Unit {0})) {i : ℕ} where
       module _ (xs : List ℕ) (w : Tested no_stranger whole xs i) where

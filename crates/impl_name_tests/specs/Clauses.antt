@@ -9,13 +9,13 @@ use Rattle.rules.specs.Syntax.{ImplFnDef, TraitFnDef}
 use Rattle.impl_functions.specs.Functions.{Placed, AllAskedHere}
 
 -- 10 at the first function whose name the trait does not ask for
-abbrev pub TellsStrangers : List ℕ → Layout → ℕ → List ℕ → Outcome → Type 0
-TellsStrangers image l trait_at places r =
-    (ts : List TraitFnDef) (m : ℕ) → AllAskedHere image l ts trait_at m → (fs : List ImplFnDef) → Placed image l fs places
+abbrev pub TellsStrangers : Layout → ℕ → List ℕ → Outcome → Type 0
+TellsStrangers l trait_at places r =
+    (ts : List TraitFnDef) (m : ℕ) → AllAskedHere l ts trait_at m → (fs : List ImplFnDef) → Placed l fs places
     → Passes (no_stranger (map (λ t. t.name) ts) fs) r
 
 -- 9, then 10
-abbrev pub TellsNames : List ℕ → Layout → ℕ → List ℕ → List ℕ → Outcome → Type 0
-TellsNames image l trait_at places names r =
-    (ts : List TraitFnDef) (m : ℕ) → AllAskedHere image l ts trait_at m → (fs : List ImplFnDef) → Placed image l fs places → names ≡ map (λ f. f.name) fs
+abbrev pub TellsNames : Layout → ℕ → List ℕ → List ℕ → Outcome → Type 0
+TellsNames l trait_at places names r =
+    (ts : List TraitFnDef) (m : ℕ) → AllAskedHere l ts trait_at m → (fs : List ImplFnDef) → Placed l fs places → names ≡ map (λ f. f.name) fs
     → Passes (no_repeat [] fs >>= λ _. no_stranger (map (λ t. t.name) ts) fs) r

@@ -12,16 +12,15 @@ use image_layout::Layout;
 
 // Of the functions at these places, with their names beside. Both are asked, and then their order tells.
 pub fn check_names(
-    image: &[u8],
-    l: Layout,
+    l: &Layout,
     trait_at: usize,
     places: &[usize],
     names: &[u32],
 ) -> Outcome
-    requires { Inside image.now l }
-    ensures { TellsNames image.now l trait_at places.now names.now result }
+    requires { Inside l.now }
+    ensures { TellsNames l.now trait_at places.now names.now result }
 {
     let repeats = repeats::no_repeat(names);
-    let strangers = strangers::no_stranger(image, l, trait_at, places);
+    let strangers = strangers::no_stranger(l, trait_at, places);
     project_outcome::first_refusal(repeats, strangers)
 }

@@ -7,16 +7,16 @@ use answers::refusal::Refusal;
 use image_layout::Layout;
 
 // 10 at the first of the functions at these places that is none of the trait functions at `trait_at`.
-pub fn no_stranger(image: &[u8], l: Layout, trait_at: usize, places: &[usize]) -> Outcome
-    requires { Inside image.now l }
-    ensures { TellsStrangers image.now l trait_at places.now result }
+pub fn no_stranger(l: &Layout, trait_at: usize, places: &[usize]) -> Outcome
+    requires { Inside l.now }
+    ensures { TellsStrangers l.now trait_at places.now result }
 {
     let pool = l.pool;
-    let names = impl_functions::names::function_names(image, l, trait_at);
-    let known = impl_functions::names::few(image_words::section_word(image, pool, trait_at));
+    let names = impl_functions::names::function_names(l, trait_at);
+    let known = impl_functions::names::few(image_words::section_word(pool, trait_at));
     let mut i = 0;
     while i < places.len() {
-        let name = impl_functions::places::name_at(image, l, places[i]);
+        let name = impl_functions::places::name_at(l, places[i]);
         if !pool_traits::listed(&names[..known], name) {
             return answers::answer::refused(Refusal::at(10, name));
         }

@@ -23,9 +23,9 @@ use Rattle.subst_names.proofs.NamesLaws.{there, past}
 use Rattle.impl_rows.specs.declared.find.Found.{Found}
 use Rattle.impl_rows.specs.Found.{is_impl_kind, is_trait_kind, Agrees, Finds, ImplHere, TraitHere}
 
-module _ {image : List ℕ} {l : Layout} {s : CompiledSchema} (o : Open image l s) (d : ℕ) (r : DefinitionRow) (row : IsDefinitionRow image l d r) where
+module _ {l : Layout} {s : CompiledSchema} (o : Open l s) (d : ℕ) (r : DefinitionRow) (row : IsDefinitionRow l d r) where
   abbrev pub Alike : TypeDef → Type 0
-  Alike t = DefinitionStands l.names.rows l.strings.rows (pool_words image l) r.kind r.start t
+  Alike t = DefinitionStands l.names.rows l.strings.rows (pool_words l) r.kind r.start t
 
   -- by the definition that stands there, if one does
   pub by_row : {A : Type 0} (Q : A → ℕ → ℕ → Type 0) (is : TypeDef → Option A) (f : Found) → ((t : TypeDef) → Alike t → Agrees Q (is t) f) → (r.kind ≡ DefinitionKind.Unknown → f.ok ≡ false)
@@ -41,24 +41,24 @@ module _ {image : List ℕ} {l : Layout} {s : CompiledSchema} (o : Open image l 
           let k : Alike e.0 = rw (row.kind below, row.start below) (o.definition d e.0 e.1) in
           record { is = subst (λ (x : Option TypeDef). Agrees Q (then x is) f) (sym e.1) (each e.0 k) }
 
-  pub finds_impl : {b : Bool} → b ≡ is_impl_kind r.kind → Finds (ImplHere image l) (then (get s d) as_implementation) (record { ok = b; start = r.start })
+  pub finds_impl : {b : Bool} → b ≡ is_impl_kind r.kind → Finds (ImplHere l) (then (get s d) as_implementation) (record { ok = b; start = r.start })
   unfolding as_implementation
-  finds_impl {b} e = by_row (ImplHere image l) as_implementation _ go (λ k. e ∙ ap is_impl_kind k)
+  finds_impl {b} e = by_row (ImplHere l) as_implementation _ go (λ k. e ∙ ap is_impl_kind k)
     where
-      go : (t : TypeDef) → Alike t → Agrees (ImplHere image l) (as_implementation t) (record { ok = b; start = r.start })
+      go : (t : TypeDef) → Alike t → Agrees (ImplHere l) (as_implementation t) (record { ok = b; start = r.start })
       go TypeDef.other k = e ∙ ap is_impl_kind k
       go (TypeDef.message m) k = e ∙ ap is_impl_kind k.0
       go (TypeDef.generic_alias a) k = e ∙ ap is_impl_kind k.0
       go (TypeDef.trait t) k = e ∙ ap is_impl_kind k.0
-      go (TypeDef.implementation i) k = (e ∙ ap is_impl_kind k.0, k.1.next, (of (implementation_gives l.names.rows l.strings.rows (pool_words image l) r.start) k.1.read).1)
+      go (TypeDef.implementation i) k = (e ∙ ap is_impl_kind k.0, k.1.next, (of (implementation_gives l.names.rows l.strings.rows (pool_words l) r.start) k.1.read).1)
 
-  pub finds_trait : {b : Bool} → b ≡ is_trait_kind r.kind → Finds (TraitHere image l) (then (get s d) as_trait) (record { ok = b; start = r.start })
+  pub finds_trait : {b : Bool} → b ≡ is_trait_kind r.kind → Finds (TraitHere l) (then (get s d) as_trait) (record { ok = b; start = r.start })
   unfolding as_trait
-  finds_trait {b} e = by_row (TraitHere image l) as_trait _ go (λ k. e ∙ ap is_trait_kind k)
+  finds_trait {b} e = by_row (TraitHere l) as_trait _ go (λ k. e ∙ ap is_trait_kind k)
     where
-      go : (t : TypeDef) → Alike t → Agrees (TraitHere image l) (as_trait t) (record { ok = b; start = r.start })
+      go : (t : TypeDef) → Alike t → Agrees (TraitHere l) (as_trait t) (record { ok = b; start = r.start })
       go TypeDef.other k = e ∙ ap is_trait_kind k
       go (TypeDef.message m) k = e ∙ ap is_trait_kind k.0
       go (TypeDef.generic_alias a) k = e ∙ ap is_trait_kind k.0
-      go (TypeDef.trait t) k = (e ∙ ap is_trait_kind k.0, k.1.next, (of (trait_gives l.names.rows (pool_words image l) r.start) k.1.read).1)
+      go (TypeDef.trait t) k = (e ∙ ap is_trait_kind k.0, k.1.next, (of (trait_gives l.names.rows (pool_words l) r.start) k.1.read).1)
       go (TypeDef.implementation i) k = e ∙ ap is_trait_kind k.0

@@ -53,7 +53,7 @@ rows_cut names table n ps e i r =
     rows_view names (take (66 * n) table) 0 ps (omega (arith, len, e))
     (rows_kept names table (take (66 * n) table) 0 ps (omega (arith, len, e)) (λ j h. get_or-take (66 * n) table j 0 (omega (arith, e))) r)
 
-module _ {image : List ℕ} {l : Layout} {params types count : ℕ} (g : Given image l params types count) where
+module _ {l : Layout} {params types count : ℕ} (g : Given l params types count) where
   -- i rows are written; what is left is in view behind them
   pub record Left (i next : ℕ) (table : List ℕ) : Type 0 where
     pub made : List (Param ResolvedType)
@@ -61,8 +61,8 @@ module _ {image : List ℕ} {l : Layout} {params types count : ℕ} (g : Given i
     pub ts : List ResolvedType
     pub rows : Rows l.names.rows table 0 made
     pub counted : length made ≡ i
-    pub xs_row : gives.Row (BelowAt (pool_words image l) l.names.rows) xs (params + i) g.params_end
-    pub ts_row : gives.Row (TypeStands l.names.rows (pool_words image l)) ts next g.types_end
+    pub xs_row : gives.Row (BelowAt (pool_words l) l.names.rows) xs (params + i) g.params_end
+    pub ts_row : gives.Row (TypeStands l.names.rows (pool_words l)) ts next g.types_end
     pub xs_count : i + length xs ≡ count
     pub ts_count : i + length ts ≡ count
     pub so : view g.params g.types ≡ made ++ view xs ts
@@ -74,7 +74,7 @@ module _ {image : List ℕ} {l : Layout} {params types count : ℕ} (g : Given i
     ts = g.types;
     rows = tt;
     counted = refl;
-    xs_row = subst (λ (k : ℕ). gives.Row (BelowAt (pool_words image l) l.names.rows) g.params k g.params_end) (omega arith) g.params_row;
+    xs_row = subst (λ (k : ℕ). gives.Row (BelowAt (pool_words l) l.names.rows) g.params k g.params_end) (omega arith) g.params_row;
     ts_row = g.types_row;
     xs_count = omega (arith, g.params_count);
     ts_count = omega (arith, g.types_count);
@@ -83,17 +83,17 @@ module _ {image : List ℕ} {l : Layout} {params types count : ℕ} (g : Given i
 
   module _ {i next : ℕ} {table : List ℕ} (v : Left i next table) where
     -- the next parameter stands inside
-    inside_o : (xs : List ℕ) → gives.Row (BelowAt (pool_words image l) l.names.rows) xs (params + i) g.params_end → 0 < length xs → params + i < length (pool_words image l)
+    inside_o : (xs : List ℕ) → gives.Row (BelowAt (pool_words l) l.names.rows) xs (params + i) g.params_end → 0 < length xs → params + i < length (pool_words l)
     inside_o [] r b = absurd (omega arith)
     inside_o (x ∷ xs) r b = r.1.0.inside
 
-    pub name_inside : i < count → params + i < length (pool_words image l)
+    pub name_inside : i < count → params + i < length (pool_words l)
     name_inside b = inside_o v.xs v.xs_row (omega (arith, v.xs_count))
 
-    module _ (b : i < count) (size : length table ≡ 528) {h : Held} (holds : Types l.names.rows (pool_words image l) next h) {x : ℕ} (named : x ≡ get_or (pool_words image l) (params + i) 0)
+    module _ (b : i < count) (size : length table ≡ 528) {h : Held} (holds : Types l.names.rows (pool_words l) next h) {x : ℕ} (named : x ≡ get_or (pool_words l) (params + i) 0)
         {new : List ℕ} (written : Written table new (66 * i) x h.ty) where
-      more_o : (xs : List ℕ) (ts : List ResolvedType) → gives.Row (BelowAt (pool_words image l) l.names.rows) xs (params + i) g.params_end
-          → gives.Row (TypeStands l.names.rows (pool_words image l)) ts next g.types_end → i + length xs ≡ count → i + length ts ≡ count
+      more_o : (xs : List ℕ) (ts : List ResolvedType) → gives.Row (BelowAt (pool_words l) l.names.rows) xs (params + i) g.params_end
+          → gives.Row (TypeStands l.names.rows (pool_words l)) ts next g.types_end → i + length xs ≡ count → i + length ts ≡ count
           → view g.params g.types ≡ v.made ++ view xs ts → Left (i + 1) h.next new
       unfolding view
       more_o [] ts xr tr xc tc s = absurd (omega arith)
@@ -110,8 +110,8 @@ module _ {image : List ℕ} {l : Layout} {params types count : ℕ} (g : Given i
             ts = ts;
             rows = rows_more l.names.rows new 0 v.made p kept (subst (λ (k : ℕ). Row l.names.rows new k p) (omega (arith, v.counted)) (written.row l.names.rows t k.0));
             counted = length-append v.made (p ∷ []) ∙ (let m : length v.made + 1 ≡ i + 1 = omega (arith, v.counted) in m);
-            xs_row = subst (λ (k : ℕ). gives.Row (BelowAt (pool_words image l) l.names.rows) xs k g.params_end) (omega (arith, xr.1.2)) xr.2;
-            ts_row = subst (λ (k : ℕ). gives.Row (TypeStands l.names.rows (pool_words image l)) ts k g.types_end) (sym k.1) tr.2;
+            xs_row = subst (λ (k : ℕ). gives.Row (BelowAt (pool_words l) l.names.rows) xs k g.params_end) (omega (arith, xr.1.2)) xr.2;
+            ts_row = subst (λ (k : ℕ). gives.Row (TypeStands l.names.rows (pool_words l)) ts k g.types_end) (sym k.1) tr.2;
             xs_count = omega (arith, xc);
             ts_count = omega (arith, tc);
             so = s ∙ ap (λ (n : ℕ). v.made ++ (record { name = n; ty = t } ∷ view xs ts)) (sym e) ∙ sym (append_assoc v.made (p ∷ []) (view xs ts));

@@ -33,9 +33,9 @@ Agrees Q (some a) r = (r.ok ≡ true) × (n : ℕ) × Q a r.start n
 pub record Finds {A : Type 0} (Q : A → ℕ → ℕ → Type 0) (o : Option A) (r : Found) : Type 0 where
   pub is : Agrees Q o r
 
-module _ (image : List ℕ) (l : Layout) where
+module _ (l : Layout) where
   abbrev pub ImplHere : ImplDef → ℕ → ℕ → Type 0
-  ImplHere = ImplStands l.names.rows l.strings.rows (pool_words image l)
+  ImplHere = ImplStands l.names.rows l.strings.rows (pool_words l)
 
   abbrev pub TraitHere : TraitDef → ℕ → ℕ → Type 0
-  TraitHere = TraitStands l.names.rows (pool_words image l)
+  TraitHere = TraitStands l.names.rows (pool_words l)

@@ -46,11 +46,11 @@ fn is_trait(k: DefinitionKind) -> bool
     }
 }
 
-pub fn find_implementation(image: &[u8], l: Layout, number: TypeId) -> Found
-    requires { Inside image.now l }
-    ensures { (s : CompiledSchema) → Open image.now l s → Finds (ImplHere image.now l) (then (get s number.0) as_implementation) result }
+pub fn find_implementation(l: &Layout, number: TypeId) -> Found
+    requires { Inside l.now }
+    ensures { (s : CompiledSchema) → Open l.now s → Finds (ImplHere l.now) (then (get s number.0) as_implementation) result }
 {
-    let row = image_layout::definition_row(image, l, number);
+    let row = image_layout::definition_row(l, number);
     let k = row.kind;
     Found {
         ok: is_impl(k),
@@ -58,11 +58,11 @@ pub fn find_implementation(image: &[u8], l: Layout, number: TypeId) -> Found
     }
 }
 
-pub fn find_trait(image: &[u8], l: Layout, number: TypeId) -> Found
-    requires { Inside image.now l }
-    ensures { (s : CompiledSchema) → Open image.now l s → Finds (TraitHere image.now l) (then (get s number.0) as_trait) result }
+pub fn find_trait(l: &Layout, number: TypeId) -> Found
+    requires { Inside l.now }
+    ensures { (s : CompiledSchema) → Open l.now s → Finds (TraitHere l.now) (then (get s number.0) as_trait) result }
 {
-    let row = image_layout::definition_row(image, l, number);
+    let row = image_layout::definition_row(l, number);
     let k = row.kind;
     Found {
         ok: is_trait(k),

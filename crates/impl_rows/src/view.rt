@@ -13,18 +13,18 @@ use subst_params::ROW;
 const VIEW_WORDS: usize = 8 * ROW;
 
 // The type parameters at `params` with the type arguments at `types`, a row for each.
-pub fn view(image: &[u8], l: Layout, params: usize, types: usize, count: usize) -> [u32; VIEW_WORDS]
-    requires { Inside image.now l × Given image.now l params types count }
-    ensures { (g : Given image.now l params types count) → Views l.names.rows (take (66 * count) result) 0 (view g.params g.types) }
+pub fn view(l: &Layout, params: usize, types: usize, count: usize) -> [u32; VIEW_WORDS]
+    requires { Inside l.now × Given l.now params types count }
+    ensures { (g : Given l.now params types count) → Views l.now.names.rows (take (66 * count) result) 0 (view g.params g.types) }
 {
     let pool = l.pool;
     let mut table = [0u32; VIEW_WORDS];
     let mut next = types;
     let mut i = 0;
     while i < count {
-        let h = type_from_pool::hold_type(image, l, next);
+        let h = type_from_pool::hold_type(l, next);
         let ty = h.ty;
-        let name = NameId(image_words::section_word(image, pool, params + i));
+        let name = NameId(image_words::section_word(pool, params + i));
         subst_params::write_row(&mut table, ROW * i, name, ty);
         next = h.next;
         i += 1;

@@ -20,11 +20,11 @@ is_message_kind DefinitionKind.Trait = false
 is_message_kind DefinitionKind.Implementation = false
 is_message_kind DefinitionKind.Unknown = false
 
-abbrev pub MessageHere : List ℕ → Layout → MessageDef → ℕ → ℕ → Type 0
-MessageHere image l = MessageStands l.names.rows (pool_words image l)
+abbrev pub MessageHere : Layout → MessageDef → ℕ → ℕ → Type 0
+MessageHere l = MessageStands l.names.rows (pool_words l)
 
 -- the message that the target is for, or none
-abbrev pub FindsTarget : List ℕ → Layout → ℕ → Found → Type 0
-FindsTarget image l at r =
-    (s : CompiledSchema) → Open image l s → (t : ResolvedType) (n : ℕ) → TypeStands l.names.rows (pool_words image l) t at n
-    → Finds (MessageHere image l) (then (number t) (λ d. then (get s d) as_message)) r
+abbrev pub FindsTarget : Layout → ℕ → Found → Type 0
+FindsTarget l at r =
+    (s : CompiledSchema) → Open l s → (t : ResolvedType) (n : ℕ) → TypeStands l.names.rows (pool_words l) t at n
+    → Finds (MessageHere l) (then (number t) (λ d. then (get s d) as_message)) r

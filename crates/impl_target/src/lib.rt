@@ -25,19 +25,19 @@ fn is_message(k: DefinitionKind) -> bool
 }
 
 // Where the message stands that the type at `at` is Named to.
-pub fn target_message(image: &[u8], l: Layout, at: usize) -> Found
-    requires { Inside image.now l }
-    ensures { FindsTarget image.now l at result }
+pub fn target_message(l: &Layout, at: usize) -> Found
+    requires { Inside l.now }
+    ensures { FindsTarget l.now at result }
 {
     let pool = l.pool;
-    if image_words::section_word(image, pool, at) != TypeTag::NAMED {
+    if image_words::section_word(pool, at) != TypeTag::NAMED {
         return Found {
             ok: false,
             start: 0,
         };
     }
-    let d = image_words::section_word(image, pool, image_words::after(pool, at));
-    let row = image_layout::definition_row(image, l, TypeId(d));
+    let d = image_words::section_word(pool, image_words::after(pool, at));
+    let row = image_layout::definition_row(l, TypeId(d));
     let k = row.kind;
     Found {
         ok: is_message(k),

@@ -50,53 +50,53 @@ module _ (row : ℕ) (s : CompiledSchema) where
     unfolding or_refuse ◌>>=◌
     both f = by_trait f
 
-module _ {image : List ℕ} {l : Layout} {found : Result (ImplDef × TraitDef)} {r : Subject} where
-  pub lacking : {e : Refusal} → found ≡ err e → (r.number ≡ 0 → ⊥) → with_name r.number NONE r.name.0 ≡ e → (r.start ≡ 0) × (r.target ≡ 0) × (r.types ≡ 0) → Finds image l found r
-  lacking q n f z = record { is = subst (λ (x : Result (ImplDef × TraitDef)). Agrees image l x r) (sym q) (n, f, z.0, z.1, z.2) }
+module _ {l : Layout} {found : Result (ImplDef × TraitDef)} {r : Subject} where
+  pub lacking : {e : Refusal} → found ≡ err e → (r.number ≡ 0 → ⊥) → with_name r.number NONE r.name.0 ≡ e → (r.start ≡ 0) × (r.target ≡ 0) × (r.types ≡ 0) → Finds l found r
+  lacking q n f z = record { is = subst (λ (x : Result (ImplDef × TraitDef)). Agrees l x r) (sym q) (n, f, z.0, z.1, z.2) }
 
-  pub standing : {i : ImplDef} {t : TraitDef} → found ≡ ok (i, t) → r.number ≡ 0 → r.name.0 ≡ NONE → Stand image l i t r → Finds image l found r
-  standing q z x a = record { is = subst (λ (x : Result (ImplDef × TraitDef)). Agrees image l x r) (sym q) (z, x, a) }
+  pub standing : {i : ImplDef} {t : TraitDef} → found ≡ ok (i, t) → r.number ≡ 0 → r.name.0 ≡ NONE → Stand l i t r → Finds l found r
+  standing q z x a = record { is = subst (λ (x : Result (ImplDef × TraitDef)). Agrees l x r) (sym q) (z, x, a) }
 
 -- the parts of an implementation whose row and whose trait's row were found
-module _ {image : List ℕ} {l : Layout} {f g : row.Found} {x : Option ImplDef} {y : Option TraitDef} (h : Has (ImplHere image l) x f) (t : Has (TraitHere image l) y g) where
+module _ {l : Layout} {f g : row.Found} {x : Option ImplDef} {y : Option TraitDef} (h : Has (ImplHere l) x f) (t : Has (TraitHere l) y g) where
   pub parts : {r : Subject} → r.start ≡ g.start → r.target ≡ f.start + 1 + 1
-      → ((ty : ResolvedType) (n : ℕ) → TypeAt l.names.rows (pool_words image l) ty r.target n → r.types ≡ n) → Stand image l h.a t.a r
+      → ((ty : ResolvedType) (n : ℕ) → TypeAt l.names.rows (pool_words l) ty r.target n → r.types ≡ n) → Stand l h.a t.a r
   parts {r} e d skips =
       let p = h.stands.parts in
-      let target_at = subst (λ (k : ℕ). TypeStands l.names.rows (pool_words image l) h.a.target_type k p.target_end) (sym d) p.target_at in
+      let target_at = subst (λ (k : ℕ). TypeStands l.names.rows (pool_words l) h.a.target_type k p.target_end) (sym d) p.target_at in
       record {
         trait_end = t.behind;
-        trait_at = subst (λ (k : ℕ). TraitHere image l t.a k t.behind) (sym e) t.stands;
+        trait_at = subst (λ (k : ℕ). TraitHere l t.a k t.behind) (sym e) t.stands;
         target_end = p.target_end;
         target_at = target_at;
         types_end = p.type_args_end;
-        types_at = subst (λ (k : ℕ). Counted (pool_words image l) 8 (TypeStands l.names.rows (pool_words image l)) h.a.type_args k p.type_args_end) (sym (skips h.a.target_type p.target_end target_at.parts)) p.type_args_at;
+        types_at = subst (λ (k : ℕ). Counted (pool_words l) 8 (TypeStands l.names.rows (pool_words l)) h.a.type_args k p.type_args_end) (sym (skips h.a.target_type p.target_end target_at.parts)) p.type_args_at;
         functions_end = h.behind;
         functions_at = p.functions_at;
       }
 
 -- what was found
-pub record HasBoth (image : List ℕ) (l : Layout) (found : Result (ImplDef × TraitDef)) (r : Subject) : Type 0 where
+pub record HasBoth (l : Layout) (found : Result (ImplDef × TraitDef)) (r : Subject) : Type 0 where
   pub impl : ImplDef
   pub trait : TraitDef
   pub is : found ≡ ok (impl, trait)
-  pub stand : Stand image l impl trait r
+  pub stand : Stand l impl trait r
 
-has_o : (image : List ℕ) (l : Layout) (found : Result (ImplDef × TraitDef)) (r : Subject) → Agrees image l found r → r.number ≡ 0 → HasBoth image l found r
-has_o image l (err e) r a z = absurd (a.0 z)
-has_o image l (ok p) r a z = record { impl = p.0; trait = p.1; is = refl; stand = a.2 }
+has_o : (l : Layout) (found : Result (ImplDef × TraitDef)) (r : Subject) → Agrees l found r → r.number ≡ 0 → HasBoth l found r
+has_o l (err e) r a z = absurd (a.0 z)
+has_o l (ok p) r a z = record { impl = p.0; trait = p.1; is = refl; stand = a.2 }
 
-lacks_o : (image : List ℕ) (l : Layout) (found : Result (ImplDef × TraitDef)) (r : Subject) → Agrees image l found r → (r.number ≡ 0 → ⊥) → found ≡ err (with_name r.number NONE r.name.0)
-lacks_o image l (err e) r a n = ap err (sym a.1)
-lacks_o image l (ok p) r a n = absurd (n a.0)
+lacks_o : (l : Layout) (found : Result (ImplDef × TraitDef)) (r : Subject) → Agrees l found r → (r.number ≡ 0 → ⊥) → found ≡ err (with_name r.number NONE r.name.0)
+lacks_o l (err e) r a n = ap err (sym a.1)
+lacks_o l (ok p) r a n = absurd (n a.0)
 
-module _ {image : List ℕ} {l : Layout} {found : Result (ImplDef × TraitDef)} {r : Subject} (f : Finds image l found r) where
-  pub has_both : r.number ≡ 0 → HasBoth image l found r
-  has_both z = has_o image l found r f.is z
+module _ {l : Layout} {found : Result (ImplDef × TraitDef)} {r : Subject} (f : Finds l found r) where
+  pub has_both : r.number ≡ 0 → HasBoth l found r
+  has_both z = has_o l found r f.is z
 
   pub lacks_both : (r.number ≡ 0 → ⊥) → found ≡ err (with_name r.number NONE r.name.0)
-  lacks_both n = lacks_o image l found r f.is n
+  lacks_both n = lacks_o l found r f.is n
 
 -- what was found, with the schema that the image opens
-abbrev pub about : {image : List ℕ} {l : Layout} {s : CompiledSchema} → Open image l s → {found : Result (ImplDef × TraitDef)} {r : Subject} → HasBoth image l found r → About image l r
+abbrev pub about : {l : Layout} {s : CompiledSchema} → Open l s → {found : Result (ImplDef × TraitDef)} {r : Subject} → HasBoth l found r → About l r
 about {image} {l} {s} o h = record { schema = s; opened = o; impl = h.impl; trait = h.trait; stand = h.stand }

@@ -20,17 +20,17 @@ subject row schema = do
   trait ← find_trait schema impl
   ok (impl, trait)
 
-module _ (image : List ℕ) (l : Layout) where
+module _ (l : Layout) where
   -- the trait and the implementation's parts stand from these places on
   pub record Stand (impl : ImplDef) (trait : TraitDef) (r : Subject) : Type 0 where
     pub trait_end : ℕ
-    pub trait_at : TraitHere image l trait r.start trait_end
+    pub trait_at : TraitHere l trait r.start trait_end
     pub target_end : ℕ
-    pub target_at : TypeStands l.names.rows (pool_words image l) impl.target_type r.target target_end
+    pub target_at : TypeStands l.names.rows (pool_words l) impl.target_type r.target target_end
     pub types_end : ℕ
-    pub types_at : Counted (pool_words image l) 8 (TypeStands l.names.rows (pool_words image l)) impl.type_args r.types types_end
+    pub types_at : Counted (pool_words l) 8 (TypeStands l.names.rows (pool_words l)) impl.type_args r.types types_end
     pub functions_end : ℕ
-    pub functions_at : Counted (pool_words image l) 64 (FunctionStands l.names.rows l.strings.rows (pool_words image l)) impl.functions types_end functions_end
+    pub functions_at : Counted (pool_words l) 64 (FunctionStands l.names.rows l.strings.rows (pool_words l)) impl.functions types_end functions_end
 
   abbrev pub Agrees : Result (ImplDef × TraitDef) → Subject → Type 0
   Agrees (err e) r = (r.number ≡ 0 → ⊥) × (with_name r.number NONE r.name.0 ≡ e) × (r.start ≡ 0) × (r.target ≡ 0) × (r.types ≡ 0)
@@ -43,7 +43,7 @@ module _ (image : List ℕ) (l : Layout) where
   -- a schema that the image opens, with an implementation and its trait at these places
   pub record About (r : Subject) : Type 0 where
     pub schema : CompiledSchema
-    pub opened : Open image l schema
+    pub opened : Open l schema
     pub impl : ImplDef
     pub trait : TraitDef
     pub stand : Stand impl trait r

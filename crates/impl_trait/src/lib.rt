@@ -20,11 +20,11 @@ pub struct Subject {
 }
 
 // 3 where the number is no implementation's row, then 4 where its trait's number is no trait's row.
-pub fn find_subject(image: &[u8], l: Layout, number: TypeId) -> Subject
-    requires { Inside image.now l }
-    ensures { (s : CompiledSchema) → Open image.now l s → Finds image.now l (subject number.0 s) result }
+pub fn find_subject(l: &Layout, number: TypeId) -> Subject
+    requires { Inside l.now }
+    ensures { (s : CompiledSchema) → Open l.now s → Finds l.now (subject number.0 s) result }
 {
-    let i = impl_rows::find::find_implementation(image, l, number);
+    let i = impl_rows::find::find_implementation(l, number);
     if !i.ok {
         return Subject {
             number: 3,
@@ -36,11 +36,11 @@ pub fn find_subject(image: &[u8], l: Layout, number: TypeId) -> Subject
     }
     let pool = l.pool;
     let at = i.start;
-    let id = image_words::section_word(image, pool, at);
-    let t = impl_rows::find::find_trait(image, l, TypeId(id));
+    let id = image_words::section_word(pool, at);
+    let t = impl_rows::find::find_trait(l, TypeId(id));
     let name_at = image_words::after(pool, at);
     if !t.ok {
-        let name = NameId(image_words::section_word(image, pool, name_at));
+        let name = NameId(image_words::section_word(pool, name_at));
         return Subject {
             number: 4,
             name,
@@ -55,6 +55,6 @@ pub fn find_subject(image: &[u8], l: Layout, number: TypeId) -> Subject
         name: NameId::NONE,
         start: t.start,
         target,
-        types: skip_types::skip_type(image, pool, target),
+        types: skip_types::skip_type(pool, target),
     }
 }

@@ -12,20 +12,20 @@ use Rattle.infer_context.specs.Stood.{Stood, AtExpr}
 use Rattle.infer_context.specs.declared.Context.{Context}
 
 -- the type of a field access by itself
-abbrev pub HintsField : List ℕ → Layout → Context → ℕ → MaybeType → Type 0
-HintsField image l ctx at r =
-    (names words lens : List ℕ) → AtContext image l names words lens ctx (λ c. (nest f : ℕ) (e : Expr) (n : ℕ)
-    → Stood l.names.rows l.strings.rows (pool_words image l) nest (Expr.field_access f e) at n
+abbrev pub HintsField : Layout → Context → ℕ → MaybeType → Type 0
+HintsField l ctx at r =
+    (names words lens : List ℕ) → AtContext l names words lens ctx (λ c. (nest f : ℕ) (e : Expr) (n : ℕ)
+    → Stood l.names.rows l.strings.rows (pool_words l) nest (Expr.field_access f e) at n
     → MaybeHolds l.names.rows r (expression_hint c (Expr.field_access f e)))
 
 -- the type that the expression there has by itself, if any
-abbrev pub HintsExpression : List ℕ → Layout → Context → List ℕ → List ℕ → List ℕ → ℕ → MaybeType → Type 0
-HintsExpression image l ctx names words lens at r =
-    AtContext image l names words lens ctx (λ c. (nest : ℕ) → AtExpr image l nest at (λ e n. MaybeHolds l.names.rows r (expression_hint c e)))
+abbrev pub HintsExpression : Layout → Context → List ℕ → List ℕ → List ℕ → ℕ → MaybeType → Type 0
+HintsExpression l ctx names words lens at r =
+    AtContext l names words lens ctx (λ c. (nest : ℕ) → AtExpr l nest at (λ e n. MaybeHolds l.names.rows r (expression_hint c e)))
 
 -- the type under which an operation's left operand is typed, if any
-abbrev pub HintsBinary : List ℕ → Layout → Context → List ℕ → List ℕ → List ℕ → ℕ → ℕ → ℕ → MaybeType → MaybeType → Type 0
-HintsBinary image l ctx names words lens op left right expected r =
-    AtContext image l names words lens ctx (λ c. (nest : ℕ)
-    → AtExpr image l nest left (λ d m. AtExpr image l nest right (λ e n. (o : Option ResolvedType) → MaybeHolds l.names.rows expected o
+abbrev pub HintsBinary : Layout → Context → List ℕ → List ℕ → List ℕ → ℕ → ℕ → ℕ → MaybeType → MaybeType → Type 0
+HintsBinary l ctx names words lens op left right expected r =
+    AtContext l names words lens ctx (λ c. (nest : ℕ)
+    → AtExpr l nest left (λ d m. AtExpr l nest right (λ e n. (o : Option ResolvedType) → MaybeHolds l.names.rows expected o
     → MaybeHolds l.names.rows r (binary_hint c op d e o))))

@@ -12,5 +12,5 @@ pub record Stood (names strings : ℕ) (ws : List ℕ) (nest : ℕ) (e : Expr) (
   pub nested : Nested names strings nest e
 
 -- a property of whatever expression stands there
-abbrev pub AtExpr : List ℕ → Layout → ℕ → ℕ → (Expr → ℕ → Type 0) → Type 0
-AtExpr image l nest at P = (e : Expr) (n : ℕ) → Stood l.names.rows l.strings.rows (pool_words image l) nest e at n → P e n
+abbrev pub AtExpr : Layout → ℕ → ℕ → (Expr → ℕ → Type 0) → Type 0
+AtExpr l nest at P = (e : Expr) (n : ℕ) → Stood l.names.rows l.strings.rows (pool_words l) nest e at n → P e n

@@ -51,52 +51,51 @@ pub fn place_kind(k: ExprKind) -> PlaceKind
 }
 
 // The kind of the code at a place.
-pub fn kind_at(image: &[u8], l: Layout, at: usize) -> ExprKind
-    requires { Inside image.now l }
-    ensures { result ≡ expr_kind (get_or (pool_words image.now l) at 0) }
+pub fn kind_at(l: &Layout, at: usize) -> ExprKind
+    requires { Inside l.now }
+    ensures { result ≡ expr_kind (get_or (pool_words l.now) at 0) }
 {
     let pool = l.pool;
-    codes::expr_kind(image_words::section_word(image, pool, at))
+    codes::expr_kind(image_words::section_word(pool, at))
 }
 
 // The word behind a code.
-pub fn operand(image: &[u8], l: Layout, at: usize) -> u32
-    requires { Inside image.now l }
-    ensures { at < length (pool_words image.now l) → result ≡ get_or (pool_words image.now l) (at + 1) 0 }
+pub fn operand(l: &Layout, at: usize) -> u32
+    requires { Inside l.now }
+    ensures { at < length (pool_words l.now) → result ≡ get_or (pool_words l.now) (at + 1) 0 }
 {
     let pool = l.pool;
-    image_words::section_word(image, pool, after(pool, at))
+    image_words::section_word(pool, after(pool, at))
 }
 
 // The place behind a code and a word.
-pub fn first_part(l: Layout, at: usize) -> usize
-    ensures { at + 1 < l.pool.len → result ≡ at + 1 + 1 }
+pub fn first_part(l: &Layout, at: usize) -> usize
+    ensures { at + 1 < length (pool_words l.now) → result ≡ at + 1 + 1 }
 {
     let pool = l.pool;
     after(pool, after(pool, at))
 }
 
 // The place behind an expression.
-pub fn skip_expr(image: &[u8], l: Layout, at: usize, nest: u32) -> usize
-    requires { Inside image.now l }
-    ensures { AtExpr image.now l nest at (λ e n. result ≡ n) }
+pub fn skip_expr(l: &Layout, at: usize, nest: u32) -> usize
+    requires { Inside l.now }
+    ensures { AtExpr l.now nest at (λ e n. result ≡ n) }
 {
     let pool = l.pool;
-    skip_functions::exprs::skip_expr(image, pool, at)
+    skip_functions::exprs::skip_expr(pool, at)
 }
 
 // The type of a field access, if its receiver is SelfRef.
-fn field_hint(image: &[u8], l: Layout, ctx: Context, at: usize) -> MaybeType
-    requires { Inside image.now l }
-    ensures { HintsField image.now l ctx at result }
+fn field_hint(l: &Layout, ctx: Context, at: usize) -> MaybeType
+    requires { Inside l.now }
+    ensures { HintsField l.now ctx at result }
 {
-    let k = place_kind(kind_at(image, l, first_part(l, at)));
+    let k = place_kind(kind_at(l, first_part(l, at)));
     match k {
         PlaceKind::Own => message_fields::field_type(
-            image,
             l,
             ctx.fields,
-            NameId(operand(image, l, at)),
+            NameId(operand(l, at)),
         ),
         PlaceKind::Local => MaybeType::none(),
         PlaceKind::Field => MaybeType::none(),
@@ -106,40 +105,38 @@ fn field_hint(image: &[u8], l: Layout, ctx: Context, at: usize) -> MaybeType
 
 // The type that an expression has by itself.
 pub fn expression_hint(
-    image: &[u8],
-    l: Layout,
+    l: &Layout,
     ctx: Context,
     names: &[u32],
     words: &[u32],
     lens: &[u32],
     at: usize,
 ) -> MaybeType
-    requires { Inside image.now l }
-    ensures { HintsExpression image.now l ctx names.now words.now lens.now at result }
+    requires { Inside l.now }
+    ensures { HintsExpression l.now ctx names.now words.now lens.now at result }
 {
-    let k = place_kind(kind_at(image, l, at));
+    let k = place_kind(kind_at(l, at));
     match k {
         PlaceKind::Local => locals::find_last(
             names,
             words,
             lens,
             ctx.count,
-            NameId(operand(image, l, at)),
+            NameId(operand(l, at)),
         ),
         PlaceKind::Own => {
-            let h = type_from_pool::hold_type(image, l, ctx.target);
+            let h = type_from_pool::hold_type(l, ctx.target);
             let ty = h.ty;
             MaybeType::some(ty)
         }
-        PlaceKind::Field => field_hint(image, l, ctx, at),
+        PlaceKind::Field => field_hint(l, ctx, at),
         PlaceKind::Nowhere => MaybeType::none(),
     }
 }
 
 // The hint of a binary's left: left's place, else right's, else for arithmetic the expected type.
 pub fn binary_hint(
-    image: &[u8],
-    l: Layout,
+    l: &Layout,
     ctx: Context,
     names: &[u32],
     words: &[u32],
@@ -149,14 +146,14 @@ pub fn binary_hint(
     right: usize,
     expected: MaybeType,
 ) -> MaybeType
-    requires { Inside image.now l }
-    ensures { HintsBinary image.now l ctx names.now words.now lens.now op left right expected result }
+    requires { Inside l.now }
+    ensures { HintsBinary l.now ctx names.now words.now lens.now op left right expected result }
 {
-    let a = expression_hint(image, l, ctx, names, words, lens, left);
+    let a = expression_hint(l, ctx, names, words, lens, left);
     if a.some {
         return a;
     }
-    let b = expression_hint(image, l, ctx, names, words, lens, right);
+    let b = expression_hint(l, ctx, names, words, lens, right);
     if b.some {
         return b;
     }

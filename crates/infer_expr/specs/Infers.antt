@@ -13,10 +13,10 @@ use Rattle.infer_result.specs.declared.inferred.Inferred.{Inferred}
 use Rattle.infer_result.specs.Says.{Says}
 
 -- over the image, its layout, the table and the context
-module _ (image : List ℕ) (l : Layout) (names words lens : List ℕ) (x : Context) (at nest : ℕ) (expected : MaybeType) (context : ℕ) (r : Inferred) where
+module _ (l : Layout) (names words lens : List ℕ) (x : Context) (at nest : ℕ) (expected : MaybeType) (context : ℕ) (r : Inferred) where
   -- r is what the rules make of an expression under any expected type that is held
   abbrev pub SaysOf : FunctionContext → Expr → Type 0
   SaysOf c e = (o : Option ResolvedType) → MaybeHolds l.names.rows expected o → Says l.names.rows c.function (infer_expr c e o context) r
 
   abbrev pub Infers : Type 0
-  Infers = AtContext image l names words lens x (λ c. AtExpr image l nest at (λ e n. SaysOf c e))
+  Infers = AtContext l names words lens x (λ c. AtExpr l nest at (λ e n. SaysOf c e))

@@ -18,8 +18,7 @@ const UNARY_EXPRESSION: u32 = 7;
 
 // The type of the expression at `at` under an expected type or none; a mismatch is refused in the caller's context.
 pub fn infer_expr(
-    image: &[u8],
-    l: Layout,
+    l: &Layout,
     ctx: Context,
     names: &[u32],
     words: &[u32],
@@ -29,29 +28,28 @@ pub fn infer_expr(
     expected: MaybeType,
     context: u32,
 ) -> Inferred
-    requires { Inside image.now l }
-    ensures { Infers image.now l names.now words.now lens.now ctx at nest expected context result }
+    requires { Inside l.now }
+    ensures { Infers l.now names.now words.now lens.now ctx at nest expected context result }
 {
     // No expression is nested 0 deep: what is answered then means nothing.
     if nest == 0 {
-        return infer_leaf(image, l, ctx, names, words, lens, at, expected, context);
+        return infer_leaf(l, ctx, names, words, lens, at, expected, context);
     }
     let inner = nest - 1;
     // One place for the type that an operand is typed under and one for what came of it: each more would be stack at every level.
     let mut under = expected;
-    let k = infer_context::kind_at(image, l, at);
+    let k = infer_context::kind_at(l, at);
     match k {
         // The left operand under the hint, the right under the left's type.
         ExprKind::Binary => {
-            let op = infer_context::operand(image, l, at);
+            let op = infer_context::operand(l, at);
             let left = infer_context::first_part(l, at);
-            let right = infer_context::skip_expr(image, l, left, inner);
+            let right = infer_context::skip_expr(l, left, inner);
             let hint = infer_context::binary_hint(
-                image, l, ctx, names, words, lens, op, left, right, expected,
+                l, ctx, names, words, lens, op, left, right, expected,
             );
             under = hint;
             let mut a = infer_expr(
-                image,
                 l,
                 ctx,
                 names,
@@ -66,7 +64,6 @@ pub fn infer_expr(
                 let ty = a.ty;
                 under = MaybeType { some: true, ty };
                 a = infer_expr(
-                    image,
                     l,
                     ctx,
                     names,
@@ -85,10 +82,9 @@ pub fn infer_expr(
         }
         // The value under the expected type.
         ExprKind::Unary => {
-            let op = infer_context::operand(image, l, at);
+            let op = infer_context::operand(l, at);
             let value = infer_context::first_part(l, at);
             let mut a = infer_expr(
-                image,
                 l,
                 ctx,
                 names,
@@ -106,6 +102,6 @@ pub fn infer_expr(
             }
             a
         }
-        _ => infer_leaf(image, l, ctx, names, words, lens, at, expected, context),
+        _ => infer_leaf(l, ctx, names, words, lens, at, expected, context),
     }
 }

@@ -20,14 +20,14 @@ use rules::tags::TypeTag;
 use type_words::{HeldType, MaybeType};
 
 // The 64 bits of a literal.
-fn literal_bits(image: &[u8], l: Layout, at: usize) -> u64
-    requires { Inside image.now l }
-    ensures { (nest c low high n : ℕ) → Stood l.names.rows l.strings.rows (pool_words image.now l) nest (Expr.literal c low high) at n → result ≡ low + 4294967296 * high }
+fn literal_bits(l: &Layout, at: usize) -> u64
+    requires { Inside l.now }
+    ensures { (nest c low high n : ℕ) → Stood l.now.names.rows l.now.strings.rows (pool_words l.now) nest (Expr.literal c low high) at n → result ≡ low + 4294967296 * high }
 {
     let pool = l.pool;
     let next = image_words::after(pool, at);
-    let low = image_words::section_word(image, pool, next);
-    let high = image_words::section_word(image, pool, image_words::after(pool, next));
+    let low = image_words::section_word(pool, next);
+    let high = image_words::section_word(pool, image_words::after(pool, next));
     (low as u64) + 4294967296 * (high as u64)
 }
 
@@ -57,13 +57,13 @@ pub fn literal_own(code: u32) -> HeldType
     HeldType::plain(PrimitiveType::F64)
 }
 
-fn infer_literal(image: &[u8], l: Layout, at: usize, expected: MaybeType, context: u32) -> Inferred
-    requires { Inside image.now l }
-    ensures { InfersLiteral image.now l at expected context result }
+fn infer_literal(l: &Layout, at: usize, expected: MaybeType, context: u32) -> Inferred
+    requires { Inside l.now }
+    ensures { InfersLiteral l.now at expected context result }
 {
     let pool = l.pool;
-    let code = image_words::section_word(image, pool, at);
-    let m = literal_type(code, literal_bits(image, l, at), expected);
+    let code = image_words::section_word(pool, at);
+    let m = literal_type(code, literal_bits(l, at), expected);
     if m.some {
         let ty = m.ty;
         return ended(expected, context, ty);
@@ -74,8 +74,7 @@ fn infer_literal(image: &[u8], l: Layout, at: usize, expected: MaybeType, contex
 
 // A local, SelfRef or a field: the type that it has by itself, or a refusal with its name.
 fn infer_place(
-    image: &[u8],
-    l: Layout,
+    l: &Layout,
     ctx: Context,
     names: &[u32],
     words: &[u32],
@@ -85,30 +84,29 @@ fn infer_place(
     context: u32,
     number: u32,
 ) -> Inferred
-    requires { Inside image.now l }
-    ensures { InfersPlace image.now l ctx names.now words.now lens.now at expected context number result }
+    requires { Inside l.now }
+    ensures { InfersPlace l.now ctx names.now words.now lens.now at expected context number result }
 {
-    let h = infer_context::expression_hint(image, l, ctx, names, words, lens, at);
+    let h = infer_context::expression_hint(l, ctx, names, words, lens, at);
     if h.some {
         let ty = h.ty;
         return ended(expected, context, ty);
     }
-    refused(number, NameId(infer_context::operand(image, l, at)))
+    refused(number, NameId(infer_context::operand(l, at)))
 }
 
 // The method's name in a trait method's call.
-fn method_name(image: &[u8], l: Layout, at: usize) -> NameId
-    requires { Inside image.now l }
-    ensures { NamesMethod image.now l at result }
+fn method_name(l: &Layout, at: usize) -> NameId
+    requires { Inside l.now }
+    ensures { NamesMethod l.now at result }
 {
     let pool = l.pool;
-    NameId(infer_context::operand(image, l, image_words::after(pool, at)))
+    NameId(infer_context::operand(l, image_words::after(pool, at)))
 }
 
 // The type of an expression that is no operation, or its refusal; an operation is not asked here, and its arm's answer means nothing.
 pub fn infer_leaf(
-    image: &[u8],
-    l: Layout,
+    l: &Layout,
     ctx: Context,
     names: &[u32],
     words: &[u32],
@@ -117,22 +115,22 @@ pub fn infer_leaf(
     expected: MaybeType,
     context: u32,
 ) -> Inferred
-    requires { Inside image.now l }
-    ensures { InfersLeaf image.now l ctx names.now words.now lens.now at expected context result }
+    requires { Inside l.now }
+    ensures { InfersLeaf l.now ctx names.now words.now lens.now at expected context result }
 {
-    let k = infer_context::kind_at(image, l, at);
+    let k = infer_context::kind_at(l, at);
     match k {
-        ExprKind::Literal => infer_literal(image, l, at, expected, context),
+        ExprKind::Literal => infer_literal(l, at, expected, context),
         ExprKind::Flag => ended(expected, context, HeldType::plain(PrimitiveType::BOOL)),
         ExprKind::Text => ended(expected, context, HeldType::plain(TypeTag::STRING)),
         ExprKind::Local | ExprKind::SelfRef => infer_place(
-            image, l, ctx, names, words, lens, at, expected, context, 16,
+            l, ctx, names, words, lens, at, expected, context, 16,
         ),
         ExprKind::FieldAccess => infer_place(
-            image, l, ctx, names, words, lens, at, expected, context, 17,
+            l, ctx, names, words, lens, at, expected, context, 17,
         ),
-        ExprKind::Call => refused(13, NameId(infer_context::operand(image, l, at))),
-        ExprKind::TraitMethodCall => refused(14, method_name(image, l, at)),
+        ExprKind::Call => refused(13, NameId(infer_context::operand(l, at))),
+        ExprKind::TraitMethodCall => refused(14, method_name(l, at)),
         ExprKind::Binary | ExprKind::Unary | ExprKind::Unknown => accepted(HeldType::empty()),
     }
 }

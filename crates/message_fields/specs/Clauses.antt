@@ -8,7 +8,7 @@ use Rattle.rules.specs.declared.ids.NameId.{NameId}
 use Rattle.message_fields.specs.Fields.{Fields, Place}
 
 -- the place of the type of the last field of that name, or 0
-abbrev pub FindsField : List ℕ → Layout → ℕ → NameId → ℕ → Type 0
-FindsField image l at x r =
-    (ps : List (Param ResolvedType)) (n : ℕ) → Fields l.names.rows (pool_words image l) ps at n
-    → Place l.names.rows (pool_words image l) r (find_last x.0 ps)
+abbrev pub FindsField : Layout → ℕ → NameId → ℕ → Type 0
+FindsField l at x r =
+    (ps : List (Param ResolvedType)) (n : ℕ) → Fields l.names.rows (pool_words l) ps at n
+    → Place l.names.rows (pool_words l) r (find_last x.0 ps)

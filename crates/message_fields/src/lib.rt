@@ -23,12 +23,12 @@ fn pick(best: usize, place: usize, name: NameId, x: NameId) -> usize
 }
 
 // Where the type of the last field of this name stands, or 0.
-pub fn find_field(image: &[u8], l: Layout, at: usize, x: NameId) -> usize
-    requires { Inside image.now l }
-    ensures { FindsField image.now l at x result }
+pub fn find_field(l: &Layout, at: usize, x: NameId) -> usize
+    requires { Inside l.now }
+    ensures { FindsField l.now at x result }
 {
     let pool = l.pool;
-    let count = image_words::section_word(image, pool, at);
+    let count = image_words::section_word(pool, at);
     let mut i = 0;
     let mut next = after(pool, at);
     let mut best = 0;
@@ -37,25 +37,25 @@ pub fn find_field(image: &[u8], l: Layout, at: usize, x: NameId) -> usize
         best = pick(
             best,
             place,
-            NameId(image_words::section_word(image, pool, next)),
+            NameId(image_words::section_word(pool, next)),
             x,
         );
-        next = skip_types::skip_type(image, pool, place);
+        next = skip_types::skip_type(pool, place);
         i += 1;
     }
     best
 }
 
 // The type of the last field of this name.
-pub fn field_type(image: &[u8], l: Layout, at: usize, x: NameId) -> MaybeType
-    requires { Inside image.now l }
-    ensures { (ps : List (Param ResolvedType)) (n : ℕ) → Fields l.names.rows (pool_words image.now l) ps at n → MaybeHolds l.names.rows result (find_last x.0 ps) }
+pub fn field_type(l: &Layout, at: usize, x: NameId) -> MaybeType
+    requires { Inside l.now }
+    ensures { (ps : List (Param ResolvedType)) (n : ℕ) → Fields l.now.names.rows (pool_words l.now) ps at n → MaybeHolds l.now.names.rows result (find_last x.0 ps) }
 {
-    let place = find_field(image, l, at, x);
+    let place = find_field(l, at, x);
     if place == 0 {
         return MaybeType::none();
     }
-    let h = type_from_pool::hold_type(image, l, place);
+    let h = type_from_pool::hold_type(l, place);
     let ty = h.ty;
     MaybeType::some(ty)
 }

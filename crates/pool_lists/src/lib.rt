@@ -3,10 +3,10 @@
 
 ghost use Rattle.rules.specs.Reader.{many};
 ghost use Rattle.rules.specs.ReadTypes.{param};
-ghost use Rattle.image_words.specs.Verdict.{section_words, Lies, Says};
+ghost use Rattle.image_words.specs.Verdict.{section_words, Says};
 ghost use Rattle.pool_lists.specs.Items.{typed, item_reader};
 
-use image_words::{Checked, Section};
+use image_words::Checked;
 
 // How a type stands there.
 #[derive(Clone, Copy)]
@@ -23,53 +23,43 @@ pub enum Item {
 }
 
 // A name and its type.
-fn check_named(form: Form, image: &[u8], pool: Section, at: usize, names: u32) -> Checked
-    requires { Lies image.now pool }
-    ensures { Says (param names (typed form names)) (section_words image.now pool) at result }
+fn check_named(form: Form, pool: &[u8], at: usize, names: u32) -> Checked
+    ensures { Says (param names (typed form names)) (section_words pool.now) at result }
 {
-    let a = image_words::check_below(image, pool, at, names);
+    let a = image_words::check_below(pool, at, names);
     if !a.ok {
         return a;
     }
     let n = a.next;
     match form {
-        Form::Resolved => pool_types::resolved::check_type(image, pool, n, names),
-        Form::Expression => pool_type_exprs::check_type_expr(image, pool, n, names),
+        Form::Resolved => pool_types::resolved::check_type(pool, n, names),
+        Form::Expression => pool_type_exprs::check_type_expr(pool, n, names),
     }
 }
 
 // One item.
-fn check_item(item: Item, image: &[u8], pool: Section, at: usize, names: u32) -> Checked
-    requires { Lies image.now pool }
-    ensures { Says (item_reader item names) (section_words image.now pool) at result }
+fn check_item(item: Item, pool: &[u8], at: usize, names: u32) -> Checked
+    ensures { Says (item_reader item names) (section_words pool.now) at result }
 {
     match item {
-        Item::Type => pool_types::resolved::check_type(image, pool, at, names),
-        Item::Named(form) => check_named(form, image, pool, at, names),
+        Item::Type => pool_types::resolved::check_type(pool, at, names),
+        Item::Named(form) => check_named(form, pool, at, names),
     }
 }
 
 // A count, at most `most`, and so many items: type arguments, fields, parameters.
-pub fn check_items(
-    item: Item,
-    image: &[u8],
-    pool: Section,
-    at: usize,
-    names: u32,
-    most: u32,
-) -> Checked
-    requires { Lies image.now pool }
-    ensures { Says (many most (item_reader item names)) (section_words image.now pool) at result }
+pub fn check_items(item: Item, pool: &[u8], at: usize, names: u32, most: u32) -> Checked
+    ensures { Says (many most (item_reader item names)) (section_words pool.now) at result }
 {
-    let n = image_words::check_count(image, pool, at, most);
+    let n = image_words::check_count(pool, at, most);
     if !n.ok {
         return n;
     }
-    let count = image_words::section_word(image, pool, at);
+    let count = image_words::section_word(pool, at);
     let mut i = 0;
     let mut next = n.next;
     while i < count {
-        let a = check_item(item, image, pool, next, names);
+        let a = check_item(item, pool, next, names);
         if !a.ok {
             return a;
         }

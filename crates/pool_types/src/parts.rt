@@ -2,17 +2,16 @@
 ghost use Rattle.std.specs.Prelude.{ℕ, List};
 ghost use Rattle.rules.specs.Reader.{many};
 ghost use Rattle.rules.specs.ReadTypes.{sub_byte, wide, name, bits_inline};
-ghost use Rattle.image_words.specs.Verdict.{section_words, Lies, Says};
+ghost use Rattle.image_words.specs.Verdict.{section_words, Says};
 
-use image_words::{Checked, Section};
+use image_words::Checked;
 use rules::bounds::{BITS_NAMES, SUB_BYTE_BITS};
 
 // A sub-byte type behind its code: signed 0 or 1, bits 1 to 64.
-pub fn check_sub(image: &[u8], pool: Section, at: usize) -> Checked
-    requires { Lies image.now pool }
-    ensures { Says sub_byte (section_words image.now pool) at result }
+pub fn check_sub(pool: &[u8], at: usize) -> Checked
+    ensures { Says sub_byte (section_words pool.now) at result }
 {
-    let s = image_words::check_below(image, pool, at, 2);
+    let s = image_words::check_below(pool, at, 2);
     if !s.ok {
         return s;
     }
@@ -21,7 +20,7 @@ pub fn check_sub(image: &[u8], pool: Section, at: usize) -> Checked
     if !n.ok {
         return n;
     }
-    let bits = image_words::section_word(image, pool, m);
+    let bits = image_words::section_word(pool, m);
     if (1 <= bits) & (bits <= SUB_BYTE_BITS) {
         return n;
     }
@@ -29,8 +28,8 @@ pub fn check_sub(image: &[u8], pool: Section, at: usize) -> Checked
 }
 
 // 64 bits in two words.
-pub fn check_wide(pool: Section, at: usize) -> Checked
-    ensures { (image : List ℕ) → Lies image pool → Says wide (section_words image pool) at result }
+pub fn check_wide(pool: &[u8], at: usize) -> Checked
+    ensures { Says wide (section_words pool.now) at result }
 {
     let low = image_words::check_word(pool, at);
     if !low.ok {
@@ -41,19 +40,18 @@ pub fn check_wide(pool: Section, at: usize) -> Checked
 }
 
 // A count, at most `most`, and so many names.
-pub fn check_names(image: &[u8], pool: Section, at: usize, names: u32, most: u32) -> Checked
-    requires { Lies image.now pool }
-    ensures { Says (many most (name names)) (section_words image.now pool) at result }
+pub fn check_names(pool: &[u8], at: usize, names: u32, most: u32) -> Checked
+    ensures { Says (many most (name names)) (section_words pool.now) at result }
 {
-    let n = image_words::check_count(image, pool, at, most);
+    let n = image_words::check_count(pool, at, most);
     if !n.ok {
         return n;
     }
-    let count = image_words::section_word(image, pool, at);
+    let count = image_words::section_word(pool, at);
     let mut i = 0;
     let mut next = n.next;
     while i < count {
-        let a = image_words::check_below(image, pool, next, names);
+        let a = image_words::check_below(pool, next, names);
         if !a.ok {
             return a;
         }
@@ -64,9 +62,8 @@ pub fn check_names(image: &[u8], pool: Section, at: usize, names: u32, most: u32
 }
 
 // An inline bits type behind its code: at most 62 names.
-pub fn check_bits(image: &[u8], pool: Section, at: usize, names: u32) -> Checked
-    requires { Lies image.now pool }
-    ensures { Says (bits_inline names) (section_words image.now pool) at result }
+pub fn check_bits(pool: &[u8], at: usize, names: u32) -> Checked
+    ensures { Says (bits_inline names) (section_words pool.now) at result }
 {
-    check_names(image, pool, at, names, BITS_NAMES)
+    check_names(pool, at, names, BITS_NAMES)
 }

@@ -39,20 +39,20 @@ use Rattle.project_function.proofs.Passes.{follow, passing_words}
 use Rattle.project_function.specs.Blocks.{Statements}
 
 -- over the image, its layout, the function, the return type, the output before and what the whole is
-module _ (image : List ℕ) (l : Layout) (x : Context) (o : Option ResolvedType) (limit to : ℕ) (old : List ℕ) (count n : ℕ) (whole : Result (List ℕ)) where
+module _ (l : Layout) (x : Context) (o : Option ResolvedType) (limit to : ℕ) (old : List ℕ) (count n : ℕ) (whole : Result (List ℕ)) where
   -- after i statements: the context now, the statements left from `next` on; what these come to from `place` on, the whole comes to
   pub record Left (names words lens : List ℕ) (locals i next place : ℕ) (mid : List ℕ) : Type 0 where
     pub context : FunctionContext
-    pub in_context : InContext image l names words lens (counted x locals) context
+    pub in_context : InContext l names words lens (counted x locals) context
     pub rest : List Statement
-    pub row : Statements image l rest next n
+    pub row : Statements l rest next n
     pub many : i + length rest ≡ count
     pub few : locals + lets rest ≤ 64
     pub so : (new : List ℕ) (r : Outcome) → ComesTo (block_words o context rest) limit place mid new r → ComesTo whole limit to old new r
 
-module _ (image : List ℕ) (l : Layout) (x : Context) (o : Option ResolvedType) (limit to : ℕ) (old : List ℕ) (count n : ℕ) where
-  pub started : {names words lens : List ℕ} {at : ℕ} (c : FunctionContext) → InContext image l names words lens x c → (ss : List Statement) → Statements image l ss at n → length ss ≡ count → x.count + lets ss ≤ 64
-      → Left image l x o limit to old count n (block_words o c ss) names words lens x.count 0 at to old
+module _ (l : Layout) (x : Context) (o : Option ResolvedType) (limit to : ℕ) (old : List ℕ) (count n : ℕ) where
+  pub started : {names words lens : List ℕ} {at : ℕ} (c : FunctionContext) → InContext l names words lens x c → (ss : List Statement) → Statements l ss at n → length ss ≡ count → x.count + lets ss ≤ 64
+      → Left l x o limit to old count n (block_words o c ss) names words lens x.count 0 at to old
   started c i ss r m f = record { context = c; in_context = i; rest = ss; row = r; many = omega (arith, m); few = f; so = λ new r h. h }
 
 -- no statement
@@ -77,16 +77,16 @@ unfolding is_empty
 last_o i count s [] m = sym (eq-eqb (i + 1) count (omega arith))
 last_o i count s (t ∷ ss) m = sym (ne_eqb (i + 1) count (λ z. omega arith))
 
-module _ {image : List ℕ} {l : Layout} {x : Context} {o : Option ResolvedType} {limit to : ℕ} {old : List ℕ} {count n : ℕ} {whole : Result (List ℕ)} {names words lens : List ℕ} {locals i next place : ℕ} {mid : List ℕ}
-    (v : Left image l x o limit to old count n whole names words lens locals i next place mid) where
+module _ {l : Layout} {x : Context} {o : Option ResolvedType} {limit to : ℕ} {old : List ℕ} {count n : ℕ} {whole : Result (List ℕ)} {names words lens : List ℕ} {locals i next place : ℕ} {mid : List ℕ}
+    (v : Left l x o limit to old count n whole names words lens locals i next place mid) where
   -- a Return ends them
-  pub returned : i < count → get_or (pool_words image l) next 0 ≡ 2 → {new : List ℕ} {r : Outcome}
-      → ((e : Option Expr) (m : ℕ) → StatementStands l.names.rows l.strings.rows (pool_words image l) (Statement.return e) next m → (ss : List Statement) → is_empty ss ≡ eqb (i + 1) count → ComesTo (block_words o v.context (Statement.return e ∷ ss)) limit place mid new r)
+  pub returned : i < count → get_or (pool_words l) next 0 ≡ 2 → {new : List ℕ} {r : Outcome}
+      → ((e : Option Expr) (m : ℕ) → StatementStands l.names.rows l.strings.rows (pool_words l) (Statement.return e) next m → (ss : List Statement) → is_empty ss ≡ eqb (i + 1) count → ComesTo (block_words o v.context (Statement.return e ∷ ss)) limit place mid new r)
       → ComesTo whole limit to old new r
   unfolding stored_statement_words
   returned b q {new} {r} h = go v.rest v.row v.many (v.so new r)
     where
-      go : (rest : List Statement) → Statements image l rest next n → i + length rest ≡ count → (ComesTo (block_words o v.context rest) limit place mid new r → ComesTo whole limit to old new r) → ComesTo whole limit to old new r
+      go : (rest : List Statement) → Statements l rest next n → i + length rest ≡ count → (ComesTo (block_words o v.context rest) limit place mid new r → ComesTo whole limit to old new r) → ComesTo whole limit to old new r
       go [] w m so = absurd (omega arith)
       go (Statement.expr e ∷ ss) w m so = absurd (omega (arith, head w.1.words_at))
       go (Statement.let_local y t e ∷ ss) w m so = absurd (omega (arith, head w.1.words_at))
@@ -94,8 +94,8 @@ module _ {image : List ℕ} {l : Layout} {x : Context} {o : Option ResolvedType}
       go (Statement.assign t e ∷ ss) w m so = absurd (omega (arith, head w.1.words_at))
 
   -- any other statement
-  module _ (b : i < count) (q : get_or (pool_words image l) next 0 ≡ 2 → ⊥) {names' words' lens' new : List ℕ} {s : Step} (h : (t : Statement) (m : ℕ) → StatementStands l.names.rows l.strings.rows (pool_words image l) t next m → locals + let_count t ≤ 64 → Passing v.context t (Steps image l names' words' lens' (counted x locals) limit place mid new s (let_count t))) where
-    refused_o : (more : ℕ) (made : Result Made) (k : FunctionContext → Result (List ℕ)) → StepAgrees image l names' words' lens' (counted x locals) limit place mid new s more made → s.done.ok ≡ false → follow made k ≡ err (refusal_of s.done.refusal)
+  module _ (b : i < count) (q : get_or (pool_words l) next 0 ≡ 2 → ⊥) {names' words' lens' new : List ℕ} {s : Step} (h : (t : Statement) (m : ℕ) → StatementStands l.names.rows l.strings.rows (pool_words l) t next m → locals + let_count t ≤ 64 → Passing v.context t (Steps l names' words' lens' (counted x locals) limit place mid new s (let_count t))) where
+    refused_o : (more : ℕ) (made : Result Made) (k : FunctionContext → Result (List ℕ)) → StepAgrees l names' words' lens' (counted x locals) limit place mid new s more made → s.done.ok ≡ false → follow made k ≡ err (refusal_of s.done.refusal)
     unfolding follow ◌>>=◌
     refused_o more (err e) k a z = ap err (sym a.1)
     refused_o more (ok p) k a z = absurd (false≢true (sym z ∙ a.0))
@@ -104,39 +104,39 @@ module _ {image : List ℕ} {l : Layout} {x : Context} {o : Option ResolvedType}
     unfolding stored_statement_words lets
     passed_refused z = go v.rest v.row v.many v.few (v.so new s.done)
       where
-        by : (more : ℕ) (t : Statement) (ss : List Statement) (made : Result Made) → block_words o v.context (t ∷ ss) ≡ follow made (λ d. block_words o d ss) → Steps image l names' words' lens' (counted x locals) limit place mid new s more made
+        by : (more : ℕ) (t : Statement) (ss : List Statement) (made : Result Made) → block_words o v.context (t ∷ ss) ≡ follow made (λ d. block_words o d ss) → Steps l names' words' lens' (counted x locals) limit place mid new s more made
             → ComesTo (block_words o v.context (t ∷ ss)) limit place mid new s.done
         by more t ss made e a = comes_err (e ∙ refused_o more made _ a.is z) z refl
 
-        go : (rest : List Statement) → Statements image l rest next n → i + length rest ≡ count → locals + lets rest ≤ 64 → (ComesTo (block_words o v.context rest) limit place mid new s.done → ComesTo whole limit to old new s.done) → ComesTo whole limit to old new s.done
+        go : (rest : List Statement) → Statements l rest next n → i + length rest ≡ count → locals + lets rest ≤ 64 → (ComesTo (block_words o v.context rest) limit place mid new s.done → ComesTo whole limit to old new s.done) → ComesTo whole limit to old new s.done
         go [] w m f so = absurd (omega arith)
         go (Statement.expr e ∷ ss) w m f so = so (by _ (Statement.expr e) ss _ (passing_words o v.context ss (Statement.expr e)) (h (Statement.expr e) w.0 w.1 (omega arith)))
         go (Statement.let_local y t e ∷ ss) w m f so = so (by _ (Statement.let_local y t e) ss _ (passing_words o v.context ss (Statement.let_local y t e)) (h (Statement.let_local y t e) w.0 w.1 (omega arith)))
         go (Statement.return e ∷ ss) w m f so = absurd (q (head w.1.words_at))
         go (Statement.assign t e ∷ ss) w m f so = so (by _ (Statement.assign t e) ss _ (passing_words o v.context ss (Statement.assign t e)) (h (Statement.assign t e) w.0 w.1 (omega arith)))
 
-    pub passed_on : s.done.ok ≡ true → {k : ℕ} → ((t : Statement) (m : ℕ) → StatementStands l.names.rows l.strings.rows (pool_words image l) t next m → k ≡ m)
-        → Left image l x o limit to old count n whole names' words' lens' s.count (i + 1) k s.done.length new
+    pub passed_on : s.done.ok ≡ true → {k : ℕ} → ((t : Statement) (m : ℕ) → StatementStands l.names.rows l.strings.rows (pool_words l) t next m → k ≡ m)
+        → Left l x o limit to old count n whole names' words' lens' s.count (i + 1) k s.done.length new
     unfolding stored_statement_words lets let_count
     passed_on z {k} p = go v.rest v.row v.many v.few v.so
       where
-        by : (t : Statement) (ss : List Statement) → Statements image l (t ∷ ss) next n → i + length (t ∷ ss) ≡ count → (more : ℕ) → locals + (more + lets ss) ≤ 64
+        by : (t : Statement) (ss : List Statement) → Statements l (t ∷ ss) next n → i + length (t ∷ ss) ≡ count → (more : ℕ) → locals + (more + lets ss) ≤ 64
             → ((new : List ℕ) (r : Outcome) → ComesTo (block_words o v.context (t ∷ ss)) limit place mid new r → ComesTo whole limit to old new r)
-            → (made : Result Made) → block_words o v.context (t ∷ ss) ≡ follow made (λ d. block_words o d ss) → StepAgrees image l names' words' lens' (counted x locals) limit place mid new s more made
-            → Left image l x o limit to old count n whole names' words' lens' s.count (i + 1) k s.done.length new
+            → (made : Result Made) → block_words o v.context (t ∷ ss) ≡ follow made (λ d. block_words o d ss) → StepAgrees l names' words' lens' (counted x locals) limit place mid new s more made
+            → Left l x o limit to old count n whole names' words' lens' s.count (i + 1) k s.done.length new
         by t ss w m more f so (err y) e a = absurd (false≢true (sym a.0 ∙ z))
         by t ss w m more f so (ok d) e a = record {
           context = d.1;
           in_context = a.3;
           rest = ss;
-          row = subst (λ (j : ℕ). Statements image l ss j n) (sym (p t w.0 w.1)) w.2;
+          row = subst (λ (j : ℕ). Statements l ss j n) (sym (p t w.0 w.1)) w.2;
           many = omega (arith, m);
           few = omega (arith, f, a.1);
           so = λ newer r h. so newer r (comes_same (e ∙ follow_ok d (λ d. block_words o d ss)) (comes_behind a.2 h));
         }
 
-        go : (rest : List Statement) → Statements image l rest next n → i + length rest ≡ count → locals + lets rest ≤ 64 → ((new : List ℕ) (r : Outcome) → ComesTo (block_words o v.context rest) limit place mid new r → ComesTo whole limit to old new r)
-            → Left image l x o limit to old count n whole names' words' lens' s.count (i + 1) k s.done.length new
+        go : (rest : List Statement) → Statements l rest next n → i + length rest ≡ count → locals + lets rest ≤ 64 → ((new : List ℕ) (r : Outcome) → ComesTo (block_words o v.context rest) limit place mid new r → ComesTo whole limit to old new r)
+            → Left l x o limit to old count n whole names' words' lens' s.count (i + 1) k s.done.length new
         go [] w m f so = absurd (omega arith)
         go (Statement.expr e ∷ ss) w m f so = by (Statement.expr e) ss w m 0 f so _ (passing_words o v.context ss (Statement.expr e)) (h (Statement.expr e) w.0 w.1 (omega arith)).is
         go (Statement.let_local y t e ∷ ss) w m f so = by (Statement.let_local y t e) ss w m 1 f so _ (passing_words o v.context ss (Statement.let_local y t e)) (h (Statement.let_local y t e) w.0 w.1 (omega arith)).is

@@ -74,14 +74,14 @@ passing_words o c ss (Statement.assign t e) =
     assign_o c (λ d. project_statements o d ss) (assigned_field c.function (place t)) (λ f. or_refuse (find_last f c.fields) (with_name 17 c.function f)) (λ u. infer_expr c e (some u) 5)
 
 -- an assignment leaves the table as it is
-pub steps_assign : (image : List ℕ) (l : Layout) (names words lens : List ℕ) (y : Context) (c : FunctionContext) → InContext image l names words lens y c → (t e : Expr) {limit to : ℕ} {old new : List ℕ} {s : Step}
-    → ComesTo (assign_words c t e) limit to old new s.done → s.count ≡ y.count → Steps image l names words lens y limit to old new s 0 (made_assign c t e >>= λ p. ok (p, c))
+pub steps_assign : (l : Layout) (names words lens : List ℕ) (y : Context) (c : FunctionContext) → InContext l names words lens y c → (t e : Expr) {limit to : ℕ} {old new : List ℕ} {s : Step}
+    → ComesTo (assign_words c t e) limit to old new s.done → s.count ≡ y.count → Steps l names words lens y limit to old new s 0 (made_assign c t e >>= λ p. ok (p, c))
 unfolding assign_words ◌>>=◌
-steps_assign image l names words lens y c i t e {limit} {to} {old} {new} {s} h q = record { is = go (made_assign c t e) h.is }
+steps_assign l names words lens y c i t e {limit} {to} {old} {new} {s} h q = record { is = go (made_assign c t e) h.is }
   where
-    go : (p : Result PortableStatement) → WordsAgree (p >>= λ p. ok (statement_words p)) limit to old new s.done → StepAgrees image l names words lens y limit to old new s 0 (p >>= λ p. ok (p, c))
+    go : (p : Result PortableStatement) → WordsAgree (p >>= λ p. ok (statement_words p)) limit to old new s.done → StepAgrees l names words lens y limit to old new s 0 (p >>= λ p. ok (p, c))
     go (err z) h = h
-    go (ok p) h = (h.0, omega (arith, q), h.1, subst (λ (k : ℕ). InContext image l names words lens (counted y k) c) (sym q) i)
+    go (ok p) h = (h.0, omega (arith, q), h.1, subst (λ (k : ℕ). InContext l names words lens (counted y k) c) (sym q) i)
 
 -- by the code that stands there
 module _ (rows strings : ℕ) (ws : List ℕ) (at : ℕ) (c : FunctionContext) (P : ℕ → Result Made → Type 0) (count : ℕ) where

@@ -75,18 +75,18 @@ module _ (o : Option ResolvedType) (c : FunctionContext) where
   external = refl
 
 -- by the word that stands there
-module _ (image : List ℕ) (l : Layout) (at n : ℕ) (o : Option ResolvedType) (c : FunctionContext) {limit to : ℕ} {old new : List ℕ} {r : Outcome} where
-  pub is_external : get_or (pool_words image l) at 0 ≡ 0 → r.ok ≡ false → refusal_of r.refusal ≡ in_function 12 c.function → (b : FnBody) → BodyStands l.names.rows l.strings.rows (pool_words image l) b at n → ComesTo (body_words_of c o b) limit to old new r
+module _ (l : Layout) (at n : ℕ) (o : Option ResolvedType) (c : FunctionContext) {limit to : ℕ} {old new : List ℕ} {r : Outcome} where
+  pub is_external : get_or (pool_words l) at 0 ≡ 0 → r.ok ≡ false → refusal_of r.refusal ≡ in_function 12 c.function → (b : FnBody) → BodyStands l.names.rows l.strings.rows (pool_words l) b at n → ComesTo (body_words_of c o b) limit to old new r
   is_external q f z FnBody.external h = comes_err (external o c) f z
   is_external q f z (FnBody.block ss) h = absurd (omega (arith, h.parts.0.is))
 
-  pub is_block : (get_or (pool_words image l) at 0 ≡ 0 → ⊥) → (j : ℕ) → (at < length (pool_words image l) → j ≡ at + 1) → (count : ℕ) → count ≡ get_or (pool_words image l) j 0 → (k : ℕ) → (j < length (pool_words image l) → k ≡ j + 1)
-      → {a : ℕ} {mid : List ℕ} → Written limit to (count ∷ []) old a mid → ((ss : List Statement) → Statements image l ss k n → length ss ≡ count → lets ss ≤ 32 → ComesTo (block_words o c ss) limit a mid new r)
-      → (b : FnBody) → BodyStands l.names.rows l.strings.rows (pool_words image l) b at n → ComesTo (body_words_of c o b) limit to old new r
+  pub is_block : (get_or (pool_words l) at 0 ≡ 0 → ⊥) → (j : ℕ) → (at < length (pool_words l) → j ≡ at + 1) → (count : ℕ) → count ≡ get_or (pool_words l) j 0 → (k : ℕ) → (j < length (pool_words l) → k ≡ j + 1)
+      → {a : ℕ} {mid : List ℕ} → Written limit to (count ∷ []) old a mid → ((ss : List Statement) → Statements l ss k n → length ss ≡ count → lets ss ≤ 32 → ComesTo (block_words o c ss) limit a mid new r)
+      → (b : FnBody) → BodyStands l.names.rows l.strings.rows (pool_words l) b at n → ComesTo (body_words_of c o b) limit to old new r
   is_block q j ja count e k ka w s FnBody.external h = absurd (q h.parts.0.is)
   is_block q j ja count e k ka {a} {mid} w s (FnBody.block ss) h =
       let i : j ≡ at + 1 = ja h.parts.0.inside in
       let counts = h.parts.1 in
-      let m : length ss ≡ count = sym (e ∙ ap (λ (p : ℕ). get_or (pool_words image l) p 0) i ∙ counts.0.is) in
-      let g : k ≡ at + 1 + 1 = ka (subst (λ (p : ℕ). p < length (pool_words image l)) (sym i) counts.0.inside) ∙ ap (λ (p : ℕ). p + 1) i in
-      comes_same (block_counted o c ss ∙ ap (λ (p : ℕ). behind (p ∷ []) (block_words o c ss)) m) (comes_behind w (s ss (subst (λ (p : ℕ). Statements image l ss p n) (sym g) counts.2) m h.parts.2))
+      let m : length ss ≡ count = sym (e ∙ ap (λ (p : ℕ). get_or (pool_words l) p 0) i ∙ counts.0.is) in
+      let g : k ≡ at + 1 + 1 = ka (subst (λ (p : ℕ). p < length (pool_words l)) (sym i) counts.0.inside) ∙ ap (λ (p : ℕ). p + 1) i in
+      comes_same (block_counted o c ss ∙ ap (λ (p : ℕ). behind (p ∷ []) (block_words o c ss)) m) (comes_behind w (s ss (subst (λ (p : ℕ). Statements l ss p n) (sym g) counts.2) m h.parts.2))

@@ -19,20 +19,20 @@ use Rattle.project_function.specs.Blocks.{AtBlock}
 use Rattle.project_function.specs.Made.{body_words_of, Passing}
 
 -- the words of the statements that stand there, or the first refusal
-abbrev pub ProjectsStatements : List ℕ → Layout → ℕ → ℕ → Context → List ℕ → List ℕ → List ℕ → MaybeType → List ℕ → List ℕ → ℕ → ℕ → Outcome → Type 0
-ProjectsStatements image l at count ctx names words lens returns out out' limit to r =
-    AtBlock image l names words lens ctx at count (λ c ss n. (o : Option ResolvedType) → MaybeHolds l.names.rows returns o
+abbrev pub ProjectsStatements : Layout → ℕ → ℕ → Context → List ℕ → List ℕ → List ℕ → MaybeType → List ℕ → List ℕ → ℕ → ℕ → Outcome → Type 0
+ProjectsStatements l at count ctx names words lens returns out out' limit to r =
+    AtBlock l names words lens ctx at count (λ c ss n. (o : Option ResolvedType) → MaybeHolds l.names.rows returns o
     → ComesTo (block_words o c ss) limit to out out' r)
 
 -- the words of the body that stands there, or the first refusal
-abbrev pub ProjectsFunction : List ℕ → Layout → ℕ → Context → List ℕ → List ℕ → List ℕ → MaybeType → List ℕ → List ℕ → ℕ → ℕ → Outcome → Type 0
-ProjectsFunction image l at ctx names words lens returns out out' limit to r =
-    AtContext image l names words lens ctx (λ c. (b : FnBody) (n : ℕ) → BodyStands l.names.rows l.strings.rows (pool_words image l) b at n
+abbrev pub ProjectsFunction : Layout → ℕ → Context → List ℕ → List ℕ → List ℕ → MaybeType → List ℕ → List ℕ → ℕ → ℕ → Outcome → Type 0
+ProjectsFunction l at ctx names words lens returns out out' limit to r =
+    AtContext l names words lens ctx (λ c. (b : FnBody) (n : ℕ) → BodyStands l.names.rows l.strings.rows (pool_words l) b at n
     → (o : Option ResolvedType) → MaybeHolds l.names.rows returns o → ComesTo (body_words_of c o b) limit to out out' r)
 
 -- one statement that is no Return: its words, and a local more where it is a Let
-abbrev pub ProjectsStep : List ℕ → Layout → ℕ → Context → List ℕ → List ℕ → List ℕ → List ℕ → List ℕ → List ℕ → List ℕ → List ℕ → ℕ → ℕ → Step → Type 0
-ProjectsStep image l at ctx names names' words words' lens lens' out out' limit to r =
-    AtContext image l names words lens ctx (λ c. (s : Statement) (n : ℕ)
-    → StatementStands l.names.rows l.strings.rows (pool_words image l) s at n → ctx.count + let_count s ≤ 64
-    → Passing c s (Steps image l names' words' lens' ctx limit to out out' r (let_count s)))
+abbrev pub ProjectsStep : Layout → ℕ → Context → List ℕ → List ℕ → List ℕ → List ℕ → List ℕ → List ℕ → List ℕ → List ℕ → ℕ → ℕ → Step → Type 0
+ProjectsStep l at ctx names names' words words' lens lens' out out' limit to r =
+    AtContext l names words lens ctx (λ c. (s : Statement) (n : ℕ)
+    → StatementStands l.names.rows l.strings.rows (pool_words l) s at n → ctx.count + let_count s ≤ 64
+    → Passing c s (Steps l names' words' lens' ctx limit to out out' r (let_count s)))

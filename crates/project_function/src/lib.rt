@@ -21,8 +21,7 @@ pub mod statement;
 
 // So many statements from `at` on.
 pub fn project_statements(
-    image: &[u8],
-    l: Layout,
+    l: &Layout,
     at: usize,
     count: u32,
     ctx: Context,
@@ -34,8 +33,8 @@ pub fn project_statements(
     limit: usize,
     to: usize,
 ) -> Outcome
-    requires { Inside image.now l × (limit ≤ length out.old) × (64 ≤ length names.old) × (4096 ≤ length words.old) × (64 ≤ length lens.old) }
-    ensures { ProjectsStatements image.now l at count ctx names.old words.old lens.old returns out.old out.new limit to result }
+    requires { Inside l.now × (limit ≤ length out.old) × (64 ≤ length names.old) × (4096 ≤ length words.old) × (64 ≤ length lens.old) }
+    ensures { ProjectsStatements l.now at count ctx names.old words.old lens.old returns out.old out.new limit to result }
 {
     let pool = l.pool;
     let function = ctx.function;
@@ -50,20 +49,20 @@ pub fn project_statements(
             target: ctx.target,
             count: locals,
         };
-        if image_words::section_word(image, pool, next) == StatementTag::RETURN {
+        if image_words::section_word(pool, next) == StatementTag::RETURN {
             let last = i + 1 == count;
             return project_return(
-                image, l, next, c, names, words, lens, returns, last, out, limit, place,
+                l, next, c, names, words, lens, returns, last, out, limit, place,
             );
         }
-        let s = project_step(image, l, next, c, names, words, lens, out, limit, place);
+        let s = project_step(l, next, c, names, words, lens, out, limit, place);
         let done = s.done;
         if !done.ok {
             return done;
         }
         place = done.length;
         locals = s.count;
-        next = skip_statement(image, l, next);
+        next = skip_statement(l, next);
         i += 1;
     }
     if returns.some {
@@ -74,8 +73,7 @@ pub fn project_statements(
 
 // The body at `at`: its statements' count and their words, with the parameters in view and the return type.
 pub fn project_function(
-    image: &[u8],
-    l: Layout,
+    l: &Layout,
     at: usize,
     ctx: Context,
     names: &mut [u32],
@@ -86,19 +84,18 @@ pub fn project_function(
     limit: usize,
     to: usize,
 ) -> Outcome
-    requires { Inside image.now l × (limit ≤ length out.old) × (64 ≤ length names.old) × (4096 ≤ length words.old) × (64 ≤ length lens.old) × (ctx.count ≤ 32) }
-    ensures { ProjectsFunction image.now l at ctx names.old words.old lens.old returns out.old out.new limit to result }
+    requires { Inside l.now × (limit ≤ length out.old) × (64 ≤ length names.old) × (4096 ≤ length words.old) × (64 ≤ length lens.old) × (ctx.count ≤ 32) }
+    ensures { ProjectsFunction l.now at ctx names.old words.old lens.old returns out.old out.new limit to result }
 {
     let pool = l.pool;
-    if image_words::section_word(image, pool, at) == 0 {
+    if image_words::section_word(pool, at) == 0 {
         let function = ctx.function;
         return answers::answer::refused(Refusal::at(12, function));
     }
     let start = after(pool, at);
-    let count = image_words::section_word(image, pool, start);
+    let count = image_words::section_word(pool, start);
     let next = put(out, limit, to, count);
     project_statements(
-        image,
         l,
         after(pool, start),
         count,

@@ -11,8 +11,7 @@ use project_statement::assigns::project_assign;
 use rules::tags::StatementTag;
 
 pub fn project_step(
-    image: &[u8],
-    l: Layout,
+    l: &Layout,
     at: usize,
     ctx: Context,
     names: &mut [u32],
@@ -22,18 +21,18 @@ pub fn project_step(
     limit: usize,
     to: usize,
 ) -> Step
-    requires { Inside image.now l × (limit ≤ length out.old) × (64 ≤ length names.old) × (4096 ≤ length words.old) × (64 ≤ length lens.old) }
-    ensures { ProjectsStep image.now l at ctx names.old names.new words.old words.new
+    requires { Inside l.now × (limit ≤ length out.old) × (64 ≤ length names.old) × (4096 ≤ length words.old) × (64 ≤ length lens.old) }
+    ensures { ProjectsStep l.now at ctx names.old names.new words.old words.new
         lens.old lens.new out.old out.new limit to result }
 {
     let pool = l.pool;
-    let code = image_words::section_word(image, pool, at);
+    let code = image_words::section_word(pool, at);
     if code == StatementTag::LET {
-        return project_let(image, l, at, ctx, names, words, lens, out, limit, to);
+        return project_let(l, at, ctx, names, words, lens, out, limit, to);
     }
     let count = ctx.count;
     if code == StatementTag::ASSIGN {
-        let done = project_assign(image, l, at, ctx, names, words, lens, out, limit, to);
+        let done = project_assign(l, at, ctx, names, words, lens, out, limit, to);
         return Step { done, count };
     }
     let function = ctx.function;

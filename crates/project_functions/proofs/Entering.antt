@@ -39,17 +39,17 @@ module _ (schema : CompiledSchema) (seen : List (Param ResolvedType)) where
       by_type too_large h k = absurd (let z : ◌≡◌ {A = ℕ} 0 1 = cc in omega arith)
       by_type (done w t) h k = by_others w t (resolve_params schema seen ps) refl h k
 
-module _ {image : List ℕ} {l : Layout} {params : List ℕ} {at : ℕ} (k : One image l params at) where
+module _ {l : Layout} {params : List ℕ} {at : ℕ} (k : One l params at) where
   abbrev pub parts_of : Resolved k.here.schema k.here.seen k.here.tree k.signature
   parts_of = resolved k.here.schema k.here.seen k.here.tree k.is
 
-  pub small : Inside image l → at < 65536
+  pub small : Inside l → at < 65536
   small i = pool_small i k.here.stands.parts.name_at.inside
 
   pub same_name : k.signature.name ≡ k.here.tree.name
   same_name = ap (λ (s : PortableSignature). s.name) parts_of.so
 
-  abbrev pub params_here : ParamsHere image l params (at + 1)
+  abbrev pub params_here : ParamsHere l params (at + 1)
   params_here = record {
     schema = k.here.schema;
     opened = k.here.opened;
@@ -62,7 +62,7 @@ module _ {image : List ℕ} {l : Layout} {params : List ℕ} {at : ℕ} (k : One
 
   -- the parameters are the table's rows
   module _ {names words lens : List ℕ} {e : Entered}
-      (says : (h : ParamsHere image l params (at + 1)) → EnteredSays l.names.rows (resolve_params h.schema h.seen h.tree) h.behind names words lens e) where
+      (says : (h : ParamsHere l params (at + 1)) → EnteredSays l.names.rows (resolve_params h.schema h.seen h.tree) h.behind names words lens e) where
     pub entered : EnteredDone l.names.rows parts_of.params k.here.stands.parts.params_end names words lens e
     entered = subst (λ (o : Counted (List (Param ResolvedType))). EnteredAgrees l.names.rows o k.here.stands.parts.params_end names words lens e) parts_of.params_is (says params_here).is
 
@@ -73,7 +73,7 @@ module _ {image : List ℕ} {l : Layout} {params : List ℕ} {at : ℕ} (k : One
     table = subst (λ (s : PortableSignature). Rows l.names.rows names words lens e.count 0 s.params) (sym parts_of.so) entered.table
 
     -- the return stands behind them
-    abbrev pub return_here : ReturnHere image l params e.next
+    abbrev pub return_here : ReturnHere l params e.next
     return_here = record {
       schema = k.here.schema;
       opened = k.here.opened;
@@ -81,10 +81,10 @@ module _ {image : List ℕ} {l : Layout} {params : List ℕ} {at : ℕ} (k : One
       views = k.here.views;
       tree = k.here.tree.return_type;
       behind = k.here.behind;
-      stands = subst (λ (n : ℕ). TraitReturnAt l.names.rows (pool_words image l) k.here.tree.return_type n k.here.behind) (sym entered.next) k.here.stands.parts.return_at;
+      stands = subst (λ (n : ℕ). TraitReturnAt l.names.rows (pool_words l) k.here.tree.return_type n k.here.behind) (sym entered.next) k.here.stands.parts.return_at;
     }
 
-    pub holds : {t : Returned} → ((h : ReturnHere image l params e.next) → ReturnedSays l.names.rows (resolve_return h.schema h.seen h.tree) h.behind t) → MaybeHolds l.names.rows t.ty k.signature.return_type
+    pub holds : {t : Returned} → ((h : ReturnHere l params e.next) → ReturnedSays l.names.rows (resolve_return h.schema h.seen h.tree) h.behind t) → MaybeHolds l.names.rows t.ty k.signature.return_type
     holds {t} r =
         let d : ReturnedDone l.names.rows parts_of.returns k.here.behind t =
         subst (λ (o : Counted (Option ResolvedType)). ReturnedAgrees l.names.rows o k.here.behind t) parts_of.returns_is (r return_here).is in

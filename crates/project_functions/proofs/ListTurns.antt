@@ -42,9 +42,9 @@ drop_next [] (suc i) e = absurd (let z : ◌≡◌ {A = ℕ} 0 1 = cc in omega a
 drop_next (g ∷ gs) zero e = cc
 drop_next (g ∷ gs) (suc i) e = drop_next gs i e
 
-module _ {image : List ℕ} {l : Layout} {params : List ℕ} {at : ℕ} (h : All image l params at) (names places : List ℕ) (parts : Parts) (limit from : ℕ) (old : List ℕ) where
+module _ {l : Layout} {params : List ℕ} {at : ℕ} (h : All l params at) (names places : List ℕ) (parts : Parts) (limit from : ℕ) (old : List ℕ) where
   abbrev Functions : List TraitFnDef → ℕ → Type 0
-  Functions fs next = Row (AskedHere image l) fs next h.here.behind
+  Functions fs next = Row (AskedHere l) fs next h.here.behind
 
   -- i of them are made, and their words stand from `from` on; the signatures that are left decide
   pub record Made (impl : ImplDef) (message : MessageDef) (left : List PortableSignature) (i place : ℕ) (new : List ℕ) : Type 0 where
@@ -61,7 +61,7 @@ module _ {image : List ℕ} {l : Layout} {params : List ℕ} {at : ℕ} (h : All
     pub visits : ℕ
     pub signatures : List PortableSignature
     pub is : expected_list h.here.schema h.here.seen left ≡ ok (visits, signatures)
-    pub made : InOrder names h.here.tree → (impl : ImplDef) (message : MessageDef) → Stand image l places parts impl message → Made impl message signatures i place new
+    pub made : InOrder names h.here.tree → (impl : ImplDef) (message : MessageDef) → Stand l places parts impl message → Made impl message signatures i place new
 
   pub start : Left 0 (at + 1) from old
   unfolding each
@@ -86,7 +86,7 @@ module _ {image : List ℕ} {l : Layout} {params : List ℕ} {at : ℕ} (h : All
           go [] r m w e = absurd (omega arith)
           go (f ∷ fs) r m w e = k f fs r (omega arith) w (first h.here.schema h.here.seen f fs e)
 
-      abbrev one : (f : TraitFnDef) (fs : List TraitFnDef) → Functions (f ∷ fs) next → First h.here.schema h.here.seen f fs v.signatures → One image l params next
+      abbrev one : (f : TraitFnDef) (fs : List TraitFnDef) → Functions (f ∷ fs) next → First h.here.schema h.here.seen f fs v.signatures → One l params next
       one f fs r d = record {
         here = record { schema = h.here.schema; opened = h.here.opened; seen = h.here.seen; views = h.here.views; tree = f; behind = r.0; stands = r.1 };
         visits = d.visits;
@@ -94,11 +94,11 @@ module _ {image : List ℕ} {l : Layout} {params : List ℕ} {at : ℕ} (h : All
         is = d.is;
       }
 
-      pub turn_here : One image l params next
+      pub turn_here : One l params next
       turn_here = turn (λ f fs r m b d. one f fs r d)
 
-      module _ {newer : List ℕ} {r : Outcome} {name : ℕ} (is : name ≡ get_or names i 0) (p : (k : One image l params next) → name ≡ k.here.tree.name → (impl : ImplDef) (message : MessageDef) → Stand image l places parts impl message → ComesTo (one_words impl message k.signature) limit place new newer r) where
-        pub turn_refused : r.ok ≡ false → InOrder names h.here.tree → (impl : ImplDef) (message : MessageDef) → Stand image l places parts impl message → {to : ℕ} {older : List ℕ} → ComesTo (list_words impl message h.signatures) limit to older newer r
+      module _ {newer : List ℕ} {r : Outcome} {name : ℕ} (is : name ≡ get_or names i 0) (p : (k : One l params next) → name ≡ k.here.tree.name → (impl : ImplDef) (message : MessageDef) → Stand l places parts impl message → ComesTo (one_words impl message k.signature) limit place new newer r) where
+        pub turn_refused : r.ok ≡ false → InOrder names h.here.tree → (impl : ImplDef) (message : MessageDef) → Stand l places parts impl message → {to : ℕ} {older : List ℕ} → ComesTo (list_words impl message h.signatures) limit to older newer r
         turn_refused n named impl message s = turn (λ f fs w m b d.
             let q = came_err (p (one f fs w d) (is ∙ name_of_next h.here.tree names i named b) impl message s) n in
             let g = v.made named impl message s in
@@ -106,7 +106,7 @@ module _ {image : List ℕ} {l : Layout} {params : List ℕ} {at : ℕ} (h : All
             ∙ ap (λ (ss : List PortableSignature). prepend g.functions (project_list impl message ss)) d.so
             ∙ ap (prepend g.functions) (list_refused impl message d.signature d.others q) ∙ prepend_err g.functions _)) n refl)
 
-        pub turn_goes : r.ok ≡ true → {k : ℕ} → ((f : TraitFnDef) (m : ℕ) → AskedHere image l f next m → k ≡ m) → Left (i + 1) k r.length newer
+        pub turn_goes : r.ok ≡ true → {k : ℕ} → ((f : TraitFnDef) (m : ℕ) → AskedHere l f next m → k ≡ m) → Left (i + 1) k r.length newer
         turn_goes y {k} behind = turn (λ f fs w m b d. record {
           left = fs;
           row = subst (λ (n : ℕ). Functions fs n) (sym (behind f w.0 w.1)) w.2;
@@ -133,8 +133,8 @@ module _ {image : List ℕ} {l : Layout} {params : List ℕ} {at : ℕ} (h : All
         })
 
     -- none is left, and their count stands before them
-    pub ended : {w to : ℕ} {older : List ℕ} → w ≡ get_or (pool_words image l) at 0 → Written limit to (w ∷ []) older from old → w ≤ i → {o : Outcome} → o.ok ≡ true → o.length ≡ place
-        → InOrder names h.here.tree → (impl : ImplDef) (message : MessageDef) → Stand image l places parts impl message → ComesTo (list_words impl message h.signatures) limit to older new o
+    pub ended : {w to : ℕ} {older : List ℕ} → w ≡ get_or (pool_words l) at 0 → Written limit to (w ∷ []) older from old → w ≤ i → {o : Outcome} → o.ok ≡ true → o.length ≡ place
+        → InOrder names h.here.tree → (impl : ImplDef) (message : MessageDef) → Stand l places parts impl message → ComesTo (list_words impl message h.signatures) limit to older new o
     ended {w} {to} {older} e c b {o} y z named impl message s =
         let g = v.made named impl message s in
         let many : i ≡ w = omega (arith, v.many, h.here.stands.0.is, e) in

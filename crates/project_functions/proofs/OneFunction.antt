@@ -32,8 +32,8 @@ use Rattle.project_functions.proofs.StepLaws.{found_name, context, one_missing, 
 use Rattle.project_outcome.proofs.Passing.{not_passed, was_passed}
 use Rattle.project_functions.proofs.Entering.{same_name}
 
-module _ {image : List ℕ} {l : Layout} {params : List ℕ} {at : ℕ} (k : One image l params at) (impl : ImplDef) (message : MessageDef)
-    {name : ℕ} (named : name ≡ k.here.tree.name) {g : Found} (found : Finds (FunctionHere image l) (find_function name impl.functions) g) where
+module _ {l : Layout} {params : List ℕ} {at : ℕ} (k : One l params at) (impl : ImplDef) (message : MessageDef)
+    {name : ℕ} (named : name ≡ k.here.tree.name) {g : Found} (found : Finds (FunctionHere l) (find_function name impl.functions) g) where
   pub name_is : name ≡ k.signature.name
   name_is = named ∙ sym (same_name k)
 
@@ -45,7 +45,7 @@ module _ {image : List ℕ} {l : Layout} {params : List ℕ} {at : ℕ} (k : One
   missing n z e = comes_err (one_missing impl message k.signature (ap (λ (x : ℕ). find_function x impl.functions) (sym name_is) ∙ lacks found n)) z (e ∙ ap (in_function 11) name_is)
 
   module _ (y : g.ok ≡ true) where
-    abbrev pub hit : Has (FunctionHere image l) (find_function name impl.functions) g
+    abbrev pub hit : Has (FunctionHere l) (find_function name impl.functions) g
     hit = has found y
 
     is_found : find_function k.signature.name impl.functions ≡ some hit.a
@@ -61,8 +61,8 @@ module _ {image : List ℕ} {l : Layout} {params : List ℕ} {at : ℕ} (k : One
           (comes_behind (subst (λ (x : ℕ). Written limit to (signature_words x k.signature.params k.signature.return_type) old a mid) name_is w) b)
 
     -- the body's context
-    pub in_context : {places : List ℕ} {parts : Parts} → Stand image l places parts impl message → {names words lens : List ℕ} {f : NameId} {count : ℕ} → f.0 ≡ name → Rows l.names.rows names words lens count 0 k.signature.params
-        → InContext image l names words lens (record { function = f; fields = parts.fields; target = parts.target; count = count }) (context impl message k.signature hit.a)
+    pub in_context : {places : List ℕ} {parts : Parts} → Stand l places parts impl message → {names words lens : List ℕ} {f : NameId} {count : ℕ} → f.0 ≡ name → Rows l.names.rows names words lens count 0 k.signature.params
+        → InContext l names words lens (record { function = f; fields = parts.fields; target = parts.target; count = count }) (context impl message k.signature hit.a)
     in_context s e t = record {
       function = e ∙ found_name name impl.functions hit.is;
       locals = t;
@@ -73,5 +73,5 @@ module _ {image : List ℕ} {l : Layout} {params : List ℕ} {at : ℕ} (k : One
       stored = s.target_at.good;
     }
 
-    pub body_at : {b : ℕ} → b ≡ hit.stands.parts.return_end → BodyStands l.names.rows l.strings.rows (pool_words image l) hit.a.body b hit.behind
-    body_at e = subst (λ (m : ℕ). BodyStands l.names.rows l.strings.rows (pool_words image l) hit.a.body m hit.behind) (sym e) hit.stands.parts.body_at
+    pub body_at : {b : ℕ} → b ≡ hit.stands.parts.return_end → BodyStands l.names.rows l.strings.rows (pool_words l) hit.a.body b hit.behind
+    body_at e = subst (λ (m : ℕ). BodyStands l.names.rows l.strings.rows (pool_words l) hit.a.body m hit.behind) (sym e) hit.stands.parts.body_at

@@ -17,34 +17,34 @@ use Rattle.project_functions.specs.declared.parts.Parts.{Parts}
 abbrev pub InOrder : List ℕ → List TraitFnDef → Type 0
 InOrder names fs = take (length fs) names ≡ map (λ f. f.name) fs
 
-module _ (image : List ℕ) (l : Layout) where
+module _ (l : Layout) where
   -- the implementation's functions, the message's fields and the target type stand from these places on
   pub record Behind (impl : ImplDef) (message : MessageDef) (functions fields target : ℕ) : Type 0 where
     pub functions_end : ℕ
-    pub functions_at : FunctionsHere image l impl.functions functions functions_end
+    pub functions_at : FunctionsHere l impl.functions functions functions_end
     pub fields_end : ℕ
-    pub fields_at : Fields l.names.rows (pool_words image l) message.fields fields fields_end
+    pub fields_at : Fields l.names.rows (pool_words l) message.fields fields fields_end
     pub target_end : ℕ
-    pub target_at : TypeStands l.names.rows (pool_words image l) impl.target_type target target_end
+    pub target_at : TypeStands l.names.rows (pool_words l) impl.target_type target target_end
 
   -- each of the implementation's functions stands at its place in the table, the message's fields and the target type there
   pub record Stand (places : List ℕ) (p : Parts) (impl : ImplDef) (message : MessageDef) : Type 0 where
-    pub functions_at : Placed image l impl.functions places
+    pub functions_at : Placed l impl.functions places
     pub fields_end : ℕ
-    pub fields_at : Fields l.names.rows (pool_words image l) message.fields p.fields fields_end
+    pub fields_at : Fields l.names.rows (pool_words l) message.fields p.fields fields_end
     pub target_end : ℕ
-    pub target_at : TypeStands l.names.rows (pool_words image l) impl.target_type p.target target_end
+    pub target_at : TypeStands l.names.rows (pool_words l) impl.target_type p.target target_end
 
   -- a trait function, and the signature that it comes to
   pub record One (params : List ℕ) (at : ℕ) : Type 0 where
-    pub here : FunctionHere image l params at
+    pub here : FunctionHere l params at
     pub visits : ℕ
     pub signature : PortableSignature
     pub is : resolve_signature here.schema here.seen here.tree ≡ done visits signature
 
   -- all of them
   pub record All (params : List ℕ) (at : ℕ) : Type 0 where
-    pub here : expected.FunctionsHere image l params at
+    pub here : expected.FunctionsHere l params at
     pub visits : ℕ
     pub signatures : List PortableSignature
     pub is : expected_list here.schema here.seen here.tree ≡ ok (visits, signatures)

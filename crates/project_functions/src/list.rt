@@ -22,8 +22,7 @@ fn name_in(names: &[u32], i: u32) -> NameId
 
 // Their count, and each one of the trait functions at `at`, whose names these are; the implementation's functions stand at these places.
 pub fn project_list(
-    image: &[u8],
-    l: Layout,
+    l: &Layout,
     at: usize,
     names: &[u32],
     params: &[u32],
@@ -33,24 +32,24 @@ pub fn project_list(
     limit: usize,
     to: usize,
 ) -> Outcome
-    requires { Cut image.now l × All image.now l params.now at × (limit ≤ length out.old) }
-    ensures { ProjectsList image.now l at names.now params.now places.now parts out.old out.new limit to result }
+    requires { Cut l.now × All l.now params.now at × (limit ≤ length out.old) }
+    ensures { ProjectsList l.now at names.now params.now places.now parts out.old out.new limit to result }
 {
     let pool = l.pool;
-    let count = image_words::section_word(image, pool, at);
+    let count = image_words::section_word(pool, at);
     let mut place = write_words::put(out, limit, to, count);
     let mut next = at + 1;
     let mut i = 0;
     while i < count {
         let name = name_in(names, i);
         let f = crate::one::project_one(
-            image, l, next, name, params, places, parts, out, limit, place,
+            l, next, name, params, places, parts, out, limit, place,
         );
         if !f.ok {
             return f;
         }
         place = f.length;
-        next = impl_functions::places::after_asked(image, l, next);
+        next = impl_functions::places::after_asked(l, next);
         i += 1;
     }
     answers::answer::accepted(place, 0)

@@ -17,8 +17,7 @@ use rules::ids::NameId;
 
 // The trait function at `at`, which has this name, with these type parameters in view, the implementation's functions at these places: 11, its signature, 12, its body.
 pub fn project_one(
-    image: &[u8],
-    l: Layout,
+    l: &Layout,
     at: usize,
     name: NameId,
     params: &[u32],
@@ -28,10 +27,10 @@ pub fn project_one(
     limit: usize,
     to: usize,
 ) -> Outcome
-    requires { Cut image.now l × One image.now l params.now at × (limit ≤ length out.old) }
-    ensures { ProjectsOne image.now l at name params.now places.now parts out.old out.new limit to result }
+    requires { Cut l.now × One l.now params.now at × (limit ≤ length out.old) }
+    ensures { ProjectsOne l.now at name params.now places.now parts out.old out.new limit to result }
 {
-    let f = impl_functions::search::find_function(image, l, places, name);
+    let f = impl_functions::search::find_function(l, places, name);
     if !f.ok {
         return answers::answer::refused(Refusal::at(11, name));
     }
@@ -39,11 +38,11 @@ pub fn project_one(
     let mut names = [0u32; LOCAL_ROWS];
     let mut words = [0u32; LOCAL_WORDS];
     let mut lens = [0u32; LOCAL_ROWS];
-    let e = enter_params(image, l, at + 1, params, &mut names, &mut words, &mut lens);
+    let e = enter_params(l, at + 1, params, &mut names, &mut words, &mut lens);
     let count = e.count;
-    let t = enter_return(image, l, e.next, params);
+    let t = enter_return(l, e.next, params);
     let returns = t.ty;
-    let c = check_signature(image, l, start, name, &names, &words, &lens, count, returns);
+    let c = check_signature(l, start, name, &names, &words, &lens, count, returns);
     if !c.ok {
         return c;
     }
@@ -54,8 +53,8 @@ pub fn project_one(
         target: parts.target,
         count,
     };
-    let body = body_start(image, l, start);
+    let body = body_start(l, start);
     project_function::project_function(
-        image, l, body, ctx, &mut names, &mut words, &mut lens, returns, out, limit, next,
+        l, body, ctx, &mut names, &mut words, &mut lens, returns, out, limit, next,
     )
 }

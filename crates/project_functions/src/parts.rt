@@ -16,12 +16,12 @@ pub struct Parts {
 }
 
 // The place behind the type arguments at `at`: there the functions stand.
-pub fn functions_start(image: &[u8], l: Layout, at: usize) -> usize
-    requires { Inside image.now l }
-    ensures { (ts : List ResolvedType) (n : ℕ) → Counted (pool_words image.now l) 8 (TypeStands l.names.rows (pool_words image.now l)) ts at n → result ≡ n }
+pub fn functions_start(l: &Layout, at: usize) -> usize
+    requires { Inside l.now }
+    ensures { (ts : List ResolvedType) (n : ℕ) → Counted (pool_words l.now) 8 (TypeStands l.now.names.rows (pool_words l.now)) ts at n → result ≡ n }
 {
     let pool = l.pool;
-    let count = image_words::section_word(image, pool, at);
+    let count = image_words::section_word(pool, at);
     let place = image_words::after(pool, at);
-    skip_types::skip_types(image, pool, place, count)
+    skip_types::skip_types(pool, place, count)
 }

@@ -29,24 +29,24 @@ use Rattle.project_functions.specs.declared.parts.Parts.{Parts}
 use Rattle.project_functions.specs.Asked.{Behind, Stand, All}
 use Rattle.project_impl.proofs.WholeLaws.{same_names, as_many, words_ok}
 
-module _ {image : List ℕ} {l : Layout} {start types : ℕ} (w : Wanted image l start types) {n : ℕ} (is : n ≡ get_or (pool_words image l) (start + 1) 0) where
-  pub equal : n ≡ get_or (pool_words image l) types 0
+module _ {l : Layout} {start types : ℕ} (w : Wanted l start types) {n : ℕ} (is : n ≡ get_or (pool_words l) (start + 1) 0) where
+  pub equal : n ≡ get_or (pool_words l) types 0
   equal = views.wants_is w.asked is refl ∙ as_many w.asked.schema w.asked.trait w.asked.impl w.is ∙ sym (views.has_is w.asked is refl)
 
   pub few : n ≤ 8
   few = views.few w.asked is refl
 
-  abbrev pub given : Given image l (start + 1 + 1) (types + 1) n
+  abbrev pub given : Given l (start + 1 + 1) (types + 1) n
   given = views.given_of w.asked is refl equal
 
   -- the trait's functions stand behind its type parameters
-  pub asked_at : AllAskedHere image l w.asked.trait.functions (start + 1 + 1 + n) w.asked.trait_end
+  pub asked_at : AllAskedHere l w.asked.trait.functions (start + 1 + 1 + n) w.asked.trait_end
   asked_at =
       let p = w.asked.trait_at.parts in
-      subst (λ (k : ℕ). AllAskedHere image l w.asked.trait.functions k w.asked.trait_end)
-      (omega (arith, views.names_end (pool_words image l) l.names.rows w.asked.trait.type_params (start + 1 + 1) p.type_params_end p.type_params_at.2, views.wants_is w.asked is refl)) p.functions_at
+      subst (λ (k : ℕ). AllAskedHere l w.asked.trait.functions k w.asked.trait_end)
+      (omega (arith, views.names_end (pool_words l) l.names.rows w.asked.trait.type_params (start + 1 + 1) p.type_params_end p.type_params_at.2, views.wants_is w.asked is refl)) p.functions_at
 
-  abbrev pub all : {table : List ℕ} → Views l.names.rows table 0 (view w.asked.trait.type_params w.asked.impl.type_args) → All image l table (start + 1 + 1 + n)
+  abbrev pub all : {table : List ℕ} → Views l.names.rows table 0 (view w.asked.trait.type_params w.asked.impl.type_args) → All l table (start + 1 + 1 + n)
   all v = record {
     here = views.functions_of w.asked is refl equal v;
     visits = w.visits;
@@ -60,25 +60,25 @@ module _ {image : List ℕ} {l : Layout} {start types : ℕ} (w : Wanted image l
   against_names {r} p = subst (λ (xs : List ℕ). Passes (no_repeat [] w.asked.impl.functions >>= λ _. no_stranger xs w.asked.impl.functions) r)
       (same_names w.asked.schema (view w.asked.trait.type_params w.asked.impl.type_args) w.asked.trait.functions (sym (views.as_many w.asked is refl equal) ∙ w.is)) p
 
-pub start_small : {image : List ℕ} {l : Layout} {start types : ℕ} → Inside image l → Asked image l start types → start < 65536
+pub start_small : {l : Layout} {start types : ℕ} → Inside l → Asked l start types → start < 65536
 start_small i a = pool_small i a.trait_at.parts.name_at.inside
 
-pub types_small : {image : List ℕ} {l : Layout} {start types : ℕ} → Inside image l → Asked image l start types → types < 65536
+pub types_small : {l : Layout} {start types : ℕ} → Inside l → Asked l start types → types < 65536
 types_small i a = pool_small i a.types_at.0.inside
 
 -- accepted signatures are wanted
-abbrev pub wanted : {image : List ℕ} {l : Layout} {start types : ℕ} (a : Asked image l start types) {old new : List ℕ} {r : Outcome} → Accepted (in_words (expected_functions a.schema a.trait a.impl)) old new r → Wanted image l start types
+abbrev pub wanted : {l : Layout} {start types : ℕ} (a : Asked l start types) {old new : List ℕ} {r : Outcome} → Accepted (in_words (expected_functions a.schema a.trait a.impl)) old new r → Wanted l start types
 wanted a k = let s = words_ok (expected_functions a.schema a.trait a.impl) k.is in record { asked = a; visits = k.visits; signatures = s.0; is = s.1 }
 
 -- the functions stand where the type arguments end, and the table has their places
-pub stand : {image : List ℕ} {l : Layout} {impl : ImplDef} {message : MessageDef} {functions : ℕ} {parts : Parts} → Behind image l impl message functions parts.fields parts.target
-    → {k : ℕ} → k ≡ functions → {table : List ℕ} → ((fs : List ImplFnDef) (n : ℕ) → FunctionsHere image l fs k n → Placed image l fs (take (length fs) table))
-    → {x count : ℕ} → x ≡ get_or (pool_words image l) k 0 → (x ≤ 64 → count ≡ x) → Stand image l (take count table) parts impl message
+pub stand : {l : Layout} {impl : ImplDef} {message : MessageDef} {functions : ℕ} {parts : Parts} → Behind l impl message functions parts.fields parts.target
+    → {k : ℕ} → k ≡ functions → {table : List ℕ} → ((fs : List ImplFnDef) (n : ℕ) → FunctionsHere l fs k n → Placed l fs (take (length fs) table))
+    → {x count : ℕ} → x ≡ get_or (pool_words l) k 0 → (x ≤ 64 → count ≡ x) → Stand l (take count table) parts impl message
 stand {image} {l} {impl} b {k} e {table} placed {x} {count} is few =
-    let here = subst (λ (j : ℕ). FunctionsHere image l impl.functions j b.functions_end) (sym e) b.functions_at in
+    let here = subst (λ (j : ℕ). FunctionsHere l impl.functions j b.functions_end) (sym e) b.functions_at in
     let many : x ≡ length impl.functions = is ∙ here.0.is in
     record {
-      functions_at = subst (λ (j : ℕ). Placed image l impl.functions (take j table)) (sym (few (omega (arith, here.1, many)) ∙ many)) (placed impl.functions b.functions_end here);
+      functions_at = subst (λ (j : ℕ). Placed l impl.functions (take j table)) (sym (few (omega (arith, here.1, many)) ∙ many)) (placed impl.functions b.functions_end here);
       fields_end = b.fields_end;
       fields_at = b.fields_at;
       target_end = b.target_end;

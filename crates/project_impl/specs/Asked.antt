@@ -9,10 +9,10 @@ use Rattle.expected_functions.specs.Asked as expected
 abbrev pub Few : Result (ℕ × List ℕ) → Type 0
 Few r = (v : ℕ) (ws : List ℕ) → r ≡ ok (v, ws) → length ws ≤ 200000000
 
-module _ (image : List ℕ) (l : Layout) where
+module _ (l : Layout) where
   -- a trait at `start` and type arguments at `types`, and the signatures that they come to
   pub record Wanted (start types : ℕ) : Type 0 where
-    pub asked : expected.Asked image l start types
+    pub asked : expected.Asked l start types
     pub visits : ℕ
     pub signatures : List PortableSignature
     pub is : expected_functions asked.schema asked.trait asked.impl ≡ ok (visits, signatures)

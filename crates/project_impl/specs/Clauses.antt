@@ -14,19 +14,19 @@ use Rattle.project_impl.specs.Asked.{Wanted, Few}
 use Rattle.project_impl.specs.Steps.{tested_words, found_words, projected_words}
 
 -- 9, 10, then the functions one after the other
-abbrev pub ProjectsTested : List ℕ → Layout → ℕ → ℕ → Parts → List ℕ → List ℕ → Outcome → Type 0
-ProjectsTested image l start types parts out out' r =
-    (w : Wanted image l start types) (message : MessageDef)
-    → Behind image l w.asked.impl message w.asked.types_end parts.fields parts.target
+abbrev pub ProjectsTested : Layout → ℕ → ℕ → Parts → List ℕ → List ℕ → Outcome → Type 0
+ProjectsTested l start types parts out out' r =
+    (w : Wanted l start types) (message : MessageDef)
+    → Behind l w.asked.impl message w.asked.types_end parts.fields parts.target
     → ComesTo (tested_words w.asked.impl message w.signatures) (length out) 0 out out' r
 
 -- the projection behind an implementation, its trait and its message
-abbrev pub ProjectsFound : List ℕ → Layout → ℕ → ℕ → ℕ → ℕ → List ℕ → List ℕ → Outcome → Type 0
-ProjectsFound image l start types fields target out out' r =
-    (a : Asked image l start types) (message : MessageDef) → Behind image l a.impl message a.types_end fields target
+abbrev pub ProjectsFound : Layout → ℕ → ℕ → ℕ → ℕ → List ℕ → List ℕ → Outcome → Type 0
+ProjectsFound l start types fields target out out' r =
+    (a : Asked l start types) (message : MessageDef) → Behind l a.impl message a.types_end fields target
     → Few (found_words a.impl message a.schema a.trait) → Comes (found_words a.impl message a.schema a.trait) out out' r
 
 -- the projection behind an implementation and its trait
-abbrev pub Projects : List ℕ → Layout → Subject → List ℕ → List ℕ → Outcome → Type 0
-Projects image l f out out' r =
-    (a : About image l f) → Few (projected_words a.schema a.impl a.trait) → Comes (projected_words a.schema a.impl a.trait) out out' r
+abbrev pub Projects : Layout → Subject → List ℕ → List ℕ → Outcome → Type 0
+Projects l f out out' r =
+    (a : About l f) → Few (projected_words a.schema a.impl a.trait) → Comes (projected_words a.schema a.impl a.trait) out out' r

@@ -14,31 +14,30 @@ use subst_params::ROW;
 // One walk finds the places of the functions, for all three; the names and the functions are asked, and then their order tells.
 // The functions are gone through by the trait's names.
 fn project_tested(
-    image: &[u8],
-    l: Layout,
+    l: &Layout,
     start: usize,
     types: usize,
     parts: Parts,
     out: &mut [u8],
 ) -> Outcome
-    requires { Cut image.now l × Wanted image.now l start types }
-    ensures { ProjectsTested image.now l start types parts out.old out.new result }
+    requires { Cut l.now × Wanted l.now start types }
+    ensures { ProjectsTested l.now start types parts out.old out.new result }
 {
     let pool = l.pool;
-    let n = image_words::section_word(image, pool, start + 1) as usize;
+    let n = image_words::section_word(pool, start + 1) as usize;
     let asked = start + 1 + 1 + n;
-    let functions = project_functions::parts::functions_start(image, l, types);
-    let found = impl_functions::table::function_places(image, l, functions);
-    let count = impl_functions::names::few(image_words::section_word(image, pool, functions));
+    let functions = project_functions::parts::functions_start(l, types);
+    let found = impl_functions::table::function_places(l, functions);
+    let count = impl_functions::names::few(image_words::section_word(pool, functions));
     let places = &found[..count];
-    let own = impl_functions::names::own_names(image, l, places);
-    let wanted = impl_functions::names::function_names(image, l, asked);
-    let tests = impl_name_tests::check_names(image, l, asked, places, &own[..count]);
-    let table = impl_rows::view::view(image, l, start + 1 + 1, types + 1, n);
+    let own = impl_functions::names::own_names(l, places);
+    let wanted = impl_functions::names::function_names(l, asked);
+    let tests = impl_name_tests::check_names(l, asked, places, &own[..count]);
+    let table = impl_rows::view::view(l, start + 1 + 1, types + 1, n);
     let params = &table[..ROW * n];
     let limit = out.len();
     let listed = project_list(
-        image, l, asked, &wanted, params, places, parts, out, limit, 0,
+        l, asked, &wanted, params, places, parts, out, limit, 0,
     );
     let r = project_outcome::first_refusal(tests, listed);
     if !r.ok {
@@ -49,23 +48,22 @@ fn project_tested(
 
 // 6, 8 and 7 of the trait at `start` come before 9 and 10; the message's fields stand at `fields`, the target type at `target`.
 pub fn project_found(
-    image: &[u8],
-    l: Layout,
+    l: &Layout,
     start: usize,
     types: usize,
     fields: usize,
     target: usize,
     out: &mut [u8],
 ) -> Outcome
-    requires { Cut image.now l × Asked image.now l start types }
-    ensures { ProjectsFound image.now l start types fields target out.old out.new result }
+    requires { Cut l.now × Asked l.now start types }
+    ensures { ProjectsFound l.now start types fields target out.old out.new result }
 {
-    let e = expected_functions::expected_functions(image, l, start, types, &mut out[..0]);
+    let e = expected_functions::expected_functions(l, start, types, &mut out[..0]);
     if !e.ok {
         return e;
     }
     let parts = Parts { fields, target };
-    let p = project_tested(image, l, start, types, parts, out);
+    let p = project_tested(l, start, types, parts, out);
     if !p.ok {
         return p;
     }

@@ -13,14 +13,14 @@ use impl_trait::Subject;
 pub mod found;
 
 // The functions' words, as far as they fit. 5, then what the trait's functions come to.
-pub fn project(image: &[u8], l: Layout, f: Subject, out: &mut [u8]) -> Outcome
-    requires { Cut image.now l × About image.now l f }
-    ensures { Projects image.now l f out.old out.new result }
+pub fn project(l: &Layout, f: Subject, out: &mut [u8]) -> Outcome
+    requires { Cut l.now × About l.now f }
+    ensures { Projects l.now f out.old out.new result }
 {
     let target = f.target;
-    let m = impl_target::target_message(image, l, target);
+    let m = impl_target::target_message(l, target);
     if !m.ok {
         return answers::answer::refused(Refusal::alone(5));
     }
-    crate::found::project_found(image, l, f.start, f.types, m.start, target, out)
+    crate::found::project_found(l, f.start, f.types, m.start, target, out)
 }

@@ -61,8 +61,8 @@ same_let : (c : FunctionContext) (t : Option ResolvedType) (e : Expr) (x z : ℕ
 same_let c t e x z q = ap (λ (j : ℕ). made_let c j t e) (sym q)
 
 -- over the table before, and after
-module _ (image : List ℕ) (l : Layout) (names words lens : List ℕ) (y : Context) (c : FunctionContext) (i : InContext image l names words lens y c) {names' words' lens' : List ℕ} where
-  entered : (x : ℕ) (u : ResolvedType) → Rows l.names.rows names' words' lens' (y.count + 1) 0 (c.locals ++ (record { name = x; ty = u } ∷ [])) → InContext image l names' words' lens' (counted y (y.count + 1)) (with_local c x u)
+module _ (l : Layout) (names words lens : List ℕ) (y : Context) (c : FunctionContext) (i : InContext l names words lens y c) {names' words' lens' : List ℕ} where
+  entered : (x : ℕ) (u : ResolvedType) → Rows l.names.rows names' words' lens' (y.count + 1) 0 (c.locals ++ (record { name = x; ty = u } ∷ [])) → InContext l names' words' lens' (counted y (y.count + 1)) (with_local c x u)
   unfolding with_local
   entered x u r = record {
     function = i.function;
@@ -75,18 +75,18 @@ module _ (image : List ℕ) (l : Layout) (names words lens : List ℕ) (y : Cont
   }
 
   module _ {limit to : ℕ} {old new : List ℕ} {s : Step} where
-    steps_same : {made other : Result Made} → made ≡ other → StepAgrees image l names' words' lens' y limit to old new s 1 other → Steps image l names' words' lens' y limit to old new s 1 made
-    steps_same q h = record { is = subst (StepAgrees image l names' words' lens' y limit to old new s 1) (sym q) h }
+    steps_same : {made other : Result Made} → made ≡ other → StepAgrees l names' words' lens' y limit to old new s 1 other → Steps l names' words' lens' y limit to old new s 1 made
+    steps_same q h = record { is = subst (StepAgrees l names' words' lens' y limit to old new s 1) (sym q) h }
 
     -- z is the name as the code reads it, o what the tests came to
     module _ {x : ℕ} {z : ℕ} (q : z ≡ x) (t : Option ResolvedType) (e : Expr) {o : Outcome} (p : Passes (let_tests c z t e) o) where
-      pub let_refused : o.ok ≡ false → s.done ≡ o → Steps image l names' words' lens' y limit to old new s 1 (made_let c x t e)
+      pub let_refused : o.ok ≡ false → s.done ≡ o → Steps l names' words' lens' y limit to old new s 1 (made_let c x t e)
       let_refused n d = steps_same (same_let c t e _ z q ∙ let_err c z t e (not_passed p n)) (rw d (n, refl))
 
       pub let_entered : o.ok ≡ true → (r : Inferred) → Says l.names.rows c.function (infer_expr c e t 3) r → {d : ℕ}
           → ((v : PortableExpr) → infer_expr c e t 3 ≡ ok v → Runs r.ty (run (type_of v)) → Written limit to (let_words z v) old d new)
           → ((u : ResolvedType) → Holds l.names.rows r.ty u → Rows l.names.rows names' words' lens' (y.count + 1) 0 (c.locals ++ (record { name = z; ty = u } ∷ [])))
-          → s.done.ok ≡ true → s.done.length ≡ d → s.count ≡ y.count + 1 → Steps image l names' words' lens' y limit to old new s 1 (made_let c x t e)
+          → s.done.ok ≡ true → s.done.length ≡ d → s.count ≡ y.count + 1 → Steps l names' words' lens' y limit to old new s 1 (made_let c x t e)
       unfolding let_words
       let_entered k r h {d} g a f m n =
           let v = let_ok c z t e (was_passed p k) in
@@ -96,7 +96,7 @@ module _ (image : List ℕ) (l : Layout) (names words lens : List ℕ) (y : Cont
             f,
             n,
             subst (λ (j : ℕ). Written limit to (let_words z v.0) old j new) (sym m) (g v.0 v.1 (held_runs i.1)),
-            subst (λ (j : ℕ). InContext image l names' words' lens' (counted y j) (with_local c z u)) (sym n) (entered z u (a u i.1)),
+            subst (λ (j : ℕ). InContext l names' words' lens' (counted y j) (with_local c z u)) (sym n) (entered z u (a u i.1)),
           )
 
 -- where its parts stand

@@ -28,8 +28,7 @@ const LOCAL_BINDING: u32 = 3;
 
 // The words of a Let whose accepted value stands at `at`.
 fn write_let(
-    image: &[u8],
-    l: Layout,
+    l: &Layout,
     ctx: Context,
     names: &[u32],
     words: &[u32],
@@ -41,20 +40,19 @@ fn write_let(
     limit: usize,
     to: usize,
 ) -> usize
-    requires { Inside image.now l × (limit ≤ length out.old) }
-    ensures { WritesLet image.now l ctx names.now words.now lens.now at name ty out.old out.new limit to result }
+    requires { Inside l.now × (limit ≤ length out.old) }
+    ensures { WritesLet l.now ctx names.now words.now lens.now at name ty out.old out.new limit to result }
 {
     let a = write_words::put_two(out, limit, to, StatementTag::LET, name.0);
     let b = write_words::put_type(out, limit, a, ty);
     write_expr::write_expr(
-        image, l, ctx, names, words, lens, at, NESTING, ty, out, limit, b,
+        l, ctx, names, words, lens, at, NESTING, ty, out, limit, b,
     )
 }
 
 // A Let. Of at most 32 parameters and 32 Lets each finds a row; a full table is passed over.
 pub fn project_let(
-    image: &[u8],
-    l: Layout,
+    l: &Layout,
     at: usize,
     ctx: Context,
     names: &mut [u32],
@@ -64,8 +62,8 @@ pub fn project_let(
     limit: usize,
     to: usize,
 ) -> Step
-    requires { Inside image.now l × (limit ≤ length out.old) × (64 ≤ length names.old) × (4096 ≤ length words.old) × (64 ≤ length lens.old) }
-    ensures { ProjectsLet image.now l at ctx names.old names.new words.old words.new
+    requires { Inside l.now × (limit ≤ length out.old) × (64 ≤ length names.old) × (4096 ≤ length words.old) × (64 ≤ length lens.old) }
+    ensures { ProjectsLet l.now at ctx names.old names.new words.old words.new
         lens.old lens.new out.old out.new limit to result }
 {
     let count = ctx.count;
@@ -74,12 +72,11 @@ pub fn project_let(
         let done = answers::answer::accepted(to, 0);
         return Step { done, count };
     }
-    let name = NameId(infer_context::operand(image, l, at));
-    let w = written_type(image, l, infer_context::first_part(l, at));
+    let name = NameId(infer_context::operand(l, at));
+    let w = written_type(l, infer_context::first_part(l, at));
     let expected = w.ty;
     let value = w.next;
     let r = infer_expr::infer_expr(
-        image,
         l,
         ctx,
         names,
@@ -96,7 +93,7 @@ pub fn project_let(
     }
     let ty = r.ty;
     let next = write_let(
-        image, l, ctx, names, words, lens, value, name, ty, out, limit, to,
+        l, ctx, names, words, lens, value, name, ty, out, limit, to,
     );
     locals::add_local(names, words, lens, count, name, ty);
     let done = answers::answer::accepted(next, 0);

@@ -13,17 +13,17 @@ pub struct Wanted {
     pub next: usize,
 }
 
-pub fn written_type(image: &[u8], l: Layout, at: usize) -> Wanted
-    requires { Inside image.now l }
-    ensures { TellsWrittenType image.now l at result }
+pub fn written_type(l: &Layout, at: usize) -> Wanted
+    requires { Inside l.now }
+    ensures { TellsWrittenType l.now at result }
 {
     let pool = l.pool;
     let next = after(pool, at);
-    if image_words::section_word(image, pool, at) == 0 {
+    if image_words::section_word(pool, at) == 0 {
         let ty = MaybeType::none();
         return Wanted { ty, next };
     }
-    let h = type_from_pool::hold_type(image, l, next);
+    let h = type_from_pool::hold_type(l, next);
     let held = h.ty;
     let ty = MaybeType::some(held);
     Wanted { ty, next: h.next }

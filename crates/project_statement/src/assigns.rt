@@ -27,16 +27,16 @@ pub struct Assigned {
 const FIELD_ASSIGNMENT: u32 = 5;
 
 // The field that a target names.
-pub fn assigned_field(image: &[u8], l: Layout, at: usize) -> Assigned
-    requires { Inside image.now l }
-    ensures { (f nest : ℕ) → AtExpr image.now l nest at (λ e n. FieldAgrees f (assigned_field f (place e)) result) }
+pub fn assigned_field(l: &Layout, at: usize) -> Assigned
+    requires { Inside l.now }
+    ensures { (f nest : ℕ) → AtExpr l.now nest at (λ e n. FieldAgrees f (assigned_field f (place e)) result) }
 {
     let pool = l.pool;
-    let field = NameId(infer_context::operand(image, l, at));
-    if image_words::section_word(image, pool, at) != ExprTag::FIELD_ACCESS {
+    let field = NameId(infer_context::operand(l, at));
+    if image_words::section_word(pool, at) != ExprTag::FIELD_ACCESS {
         return Assigned { ok: false, field };
     }
-    if image_words::section_word(image, pool, infer_context::first_part(l, at))
+    if image_words::section_word(pool, infer_context::first_part(l, at))
         != ExprTag::SELF_REF
     {
         return Assigned { ok: false, field };
@@ -46,8 +46,7 @@ pub fn assigned_field(image: &[u8], l: Layout, at: usize) -> Assigned
 
 // An assignment to a field of SelfRef.
 pub fn project_assign(
-    image: &[u8],
-    l: Layout,
+    l: &Layout,
     at: usize,
     ctx: Context,
     names: &[u32],
@@ -57,25 +56,24 @@ pub fn project_assign(
     limit: usize,
     to: usize,
 ) -> Outcome
-    requires { Inside image.now l × (limit ≤ length out.old) }
-    ensures { ProjectsAssign image.now l at ctx names.now words.now lens.now out.old out.new limit to result }
+    requires { Inside l.now × (limit ≤ length out.old) }
+    ensures { ProjectsAssign l.now at ctx names.now words.now lens.now out.old out.new limit to result }
 {
     let pool = l.pool;
     let function = ctx.function;
     let target = after(pool, at);
-    let f = assigned_field(image, l, target);
+    let f = assigned_field(l, target);
     if !f.ok {
         return answers::answer::refused(Refusal::at(19, function));
     }
     let field = f.field;
-    let ty = message_fields::field_type(image, l, ctx.fields, field);
+    let ty = message_fields::field_type(l, ctx.fields, field);
     if !ty.some {
         return answers::answer::refused(Refusal::named(17, function, field));
     }
     let a = write_words::put_two(out, limit, to, StatementTag::ASSIGN, field.0);
-    let value = infer_context::skip_expr(image, l, target, NESTING);
+    let value = infer_context::skip_expr(l, target, NESTING);
     project_value(
-        image,
         l,
         ctx,
         names,

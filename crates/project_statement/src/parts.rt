@@ -8,10 +8,10 @@ ghost use Rattle.pool_bodies.specs.StatementAt.{StatementStands};
 use image_layout::Layout;
 
 // The place behind a statement.
-pub fn skip_statement(image: &[u8], l: Layout, at: usize) -> usize
-    requires { Inside image.now l }
-    ensures { (s : Statement) (n : ℕ) → StatementStands l.names.rows l.strings.rows (pool_words image.now l) s at n → result ≡ n }
+pub fn skip_statement(l: &Layout, at: usize) -> usize
+    requires { Inside l.now }
+    ensures { (s : Statement) (n : ℕ) → StatementStands l.now.names.rows l.now.strings.rows (pool_words l.now) s at n → result ≡ n }
 {
     let pool = l.pool;
-    skip_functions::statements::skip_statement(image, pool, at)
+    skip_functions::statements::skip_statement(pool, at)
 }

@@ -49,8 +49,7 @@ fn return_nothing(
 
 // A Return of the value at `at`.
 fn return_value(
-    image: &[u8],
-    l: Layout,
+    l: &Layout,
     at: usize,
     ctx: Context,
     names: &[u32],
@@ -62,8 +61,8 @@ fn return_value(
     limit: usize,
     to: usize,
 ) -> Outcome
-    requires { Inside image.now l × (limit ≤ length out.old) }
-    ensures { ReturnsValue image.now l at ctx names.now words.now lens.now returns last out.old out.new limit to result }
+    requires { Inside l.now × (limit ≤ length out.old) }
+    ensures { ReturnsValue l.now at ctx names.now words.now lens.now returns last out.old out.new limit to result }
 {
     let function = ctx.function;
     if !returns.some {
@@ -71,7 +70,6 @@ fn return_value(
     }
     let a = put_two(out, limit, to, StatementTag::RETURN, 1);
     let r = project_value(
-        image,
         l,
         ctx,
         names,
@@ -95,8 +93,7 @@ fn return_value(
 
 // A Return; `last` where no statement follows.
 pub fn project_return(
-    image: &[u8],
-    l: Layout,
+    l: &Layout,
     at: usize,
     ctx: Context,
     names: &[u32],
@@ -108,16 +105,16 @@ pub fn project_return(
     limit: usize,
     to: usize,
 ) -> Outcome
-    requires { Inside image.now l × (limit ≤ length out.old) }
-    ensures { ProjectsReturn image.now l at ctx names.now words.now lens.now returns last out.old out.new limit to result }
+    requires { Inside l.now × (limit ≤ length out.old) }
+    ensures { ProjectsReturn l.now at ctx names.now words.now lens.now returns last out.old out.new limit to result }
 {
-    let flag = infer_context::operand(image, l, at);
+    let flag = infer_context::operand(l, at);
     if flag == 0 {
         let function = ctx.function;
         return return_nothing(function, returns, last, out, limit, to);
     }
     let value = infer_context::first_part(l, at);
     return_value(
-        image, l, value, ctx, names, words, lens, returns, last, out, limit, to,
+        l, value, ctx, names, words, lens, returns, last, out, limit, to,
     )
 }

@@ -11,8 +11,7 @@ use type_words::MaybeType;
 
 // The value at `at` under an expected type or none; a mismatch is refused in the caller's context.
 pub fn project_value(
-    image: &[u8],
-    l: Layout,
+    l: &Layout,
     ctx: Context,
     names: &[u32],
     words: &[u32],
@@ -24,18 +23,18 @@ pub fn project_value(
     limit: usize,
     to: usize,
 ) -> Outcome
-    requires { Inside image.now l × (limit ≤ length out.old) }
-    ensures { ProjectsValue image.now l ctx names.now words.now lens.now at expected context out.old out.new limit to result }
+    requires { Inside l.now × (limit ≤ length out.old) }
+    ensures { ProjectsValue l.now ctx names.now words.now lens.now at expected context out.old out.new limit to result }
 {
     let r = infer_expr::infer_expr(
-        image, l, ctx, names, words, lens, at, NESTING, expected, context,
+        l, ctx, names, words, lens, at, NESTING, expected, context,
     );
     if r.number != 0 {
         return project_outcome::refuse_value(ctx.function, r);
     }
     let ty = r.ty;
     let next = write_expr::write_expr(
-        image, l, ctx, names, words, lens, at, NESTING, ty, out, limit, to,
+        l, ctx, names, words, lens, at, NESTING, ty, out, limit, to,
     );
     answers::answer::accepted(next, 0)
 }

@@ -1,19 +1,18 @@
 // Expressions: each node says how many words it has and how many parts stand behind them.
 ghost use Rattle.std.specs.Prelude.{◌≡◌, ℕ, ◌<◌};
 ghost use Rattle.rules.specs.Syntax.{Expr};
-ghost use Rattle.image_words.specs.Verdict.{section_words, Lies};
+ghost use Rattle.image_words.specs.Verdict.{section_words};
 ghost use Rattle.pool_expressions.specs.ExprAt.{ExprAt};
 ghost use Rattle.skip_types.specs.Pending.{Pending};
 ghost use Rattle.skip_functions.specs.Clauses.{CountsNode, SkipsMaybeExpr};
 
-use image_words::Section;
 use rules::kinds::ExprKind;
 use skip_types::Node;
 
 // The node of a kind at a place; a call's parts are its arguments.
-fn expr_node(image: &[u8], pool: Section, at: usize, k: ExprKind) -> Node
-    requires { Lies image.now pool × (at < pool.len) }
-    ensures { CountsNode image.now pool at k result }
+fn expr_node(pool: &[u8], at: usize, k: ExprKind) -> Node
+    requires { (at < length (section_words pool.now)) }
+    ensures { CountsNode pool.now at k result }
 {
     match k {
         ExprKind::Literal => Node { words: 3, parts: 0 },
@@ -24,11 +23,11 @@ fn expr_node(image: &[u8], pool: Section, at: usize, k: ExprKind) -> Node
         ExprKind::FieldAccess => Node { words: 2, parts: 1 },
         ExprKind::Call => Node {
             words: 3,
-            parts: image_words::section_word(image, pool, at + 2) as usize,
+            parts: image_words::section_word(pool, at + 2) as usize,
         },
         ExprKind::TraitMethodCall => Node {
             words: 4,
-            parts: 1 + image_words::section_word(image, pool, at + 3) as usize,
+            parts: 1 + image_words::section_word(pool, at + 3) as usize,
         },
         ExprKind::Binary => Node { words: 2, parts: 2 },
         ExprKind::Unary => Node { words: 2, parts: 1 },
@@ -37,21 +36,20 @@ fn expr_node(image: &[u8], pool: Section, at: usize, k: ExprKind) -> Node
 }
 
 // The place behind so many expressions. More than the words of the pool are never pending.
-pub fn skip_exprs(image: &[u8], pool: Section, at: usize, count: u32) -> usize
-    requires { Lies image.now pool }
-    ensures { (names strings n : ℕ) → Pending (ExprAt names strings (section_words image.now pool)) count at n → result ≡ n }
+pub fn skip_exprs(pool: &[u8], at: usize, count: u32) -> usize
+    ensures { (names strings n : ℕ) → Pending (ExprAt names strings (section_words pool.now)) count at n → result ≡ n }
 {
     let mut pending = count as usize;
     let mut next = at;
     while 0 < pending {
-        if pool.len <= next {
+        if image_words::count(pool) <= next {
             return next;
         }
-        if pool.len < pending {
+        if image_words::count(pool) < pending {
             return next;
         }
-        let k = codes::expr_kind(image_words::section_word(image, pool, next));
-        let node = expr_node(image, pool, next, k);
+        let k = codes::expr_kind(image_words::section_word(pool, next));
+        let node = expr_node(pool, next, k);
         next += node.words;
         pending = pending - 1 + node.parts;
     }
@@ -59,23 +57,21 @@ pub fn skip_exprs(image: &[u8], pool: Section, at: usize, count: u32) -> usize
 }
 
 // The place behind an expression.
-pub fn skip_expr(image: &[u8], pool: Section, at: usize) -> usize
-    requires { Lies image.now pool }
-    ensures { (names strings : ℕ) (e : Expr) (n : ℕ) → ExprAt names strings (section_words image.now pool) e at n → result ≡ n }
+pub fn skip_expr(pool: &[u8], at: usize) -> usize
+    ensures { (names strings : ℕ) (e : Expr) (n : ℕ) → ExprAt names strings (section_words pool.now) e at n → result ≡ n }
 {
-    skip_exprs(image, pool, at, 1)
+    skip_exprs(pool, at, 1)
 }
 
 // The place behind 0, or 1 and an expression.
-pub fn skip_maybe_expr(image: &[u8], pool: Section, at: usize) -> usize
-    requires { Lies image.now pool }
-    ensures { SkipsMaybeExpr image.now pool at result }
+pub fn skip_maybe_expr(pool: &[u8], at: usize) -> usize
+    ensures { SkipsMaybeExpr pool.now at result }
 {
-    if pool.len <= at {
+    if image_words::count(pool) <= at {
         return at;
     }
-    if image_words::section_word(image, pool, at) == 0 {
+    if image_words::section_word(pool, at) == 0 {
         return at + 1;
     }
-    skip_expr(image, pool, at + 1)
+    skip_expr(pool, at + 1)
 }

@@ -1,61 +1,57 @@
 // Statements and bodies.
 ghost use Rattle.std.specs.Prelude.{◌≡◌, ℕ};
 ghost use Rattle.rules.specs.Syntax.{Statement, FnBody};
-ghost use Rattle.image_words.specs.Verdict.{section_words, Lies};
+ghost use Rattle.image_words.specs.Verdict.{section_words};
 ghost use Rattle.pool_bodies.specs.StatementAt.{StatementAt, BodyAt};
 ghost use Rattle.skip_types.specs.Pending.{Pending};
 
-use image_words::Section;
 use rules::kinds::StatementKind;
 
 // The place behind a statement.
-pub fn skip_statement(image: &[u8], pool: Section, at: usize) -> usize
-    requires { Lies image.now pool }
-    ensures { (names strings : ℕ) (s : Statement) (n : ℕ) → StatementAt names strings (section_words image.now pool) s at n → result ≡ n }
+pub fn skip_statement(pool: &[u8], at: usize) -> usize
+    ensures { (names strings : ℕ) (s : Statement) (n : ℕ) → StatementAt names strings (section_words pool.now) s at n → result ≡ n }
 {
-    if pool.len <= at {
+    if image_words::count(pool) <= at {
         return at;
     }
     let n = at + 1;
-    let k = codes::statement_kind(image_words::section_word(image, pool, at));
+    let k = codes::statement_kind(image_words::section_word(pool, at));
     match k {
-        StatementKind::Expr => crate::exprs::skip_expr(image, pool, n),
+        StatementKind::Expr => crate::exprs::skip_expr(pool, n),
         StatementKind::Let => {
-            let m = skip_types::skip_maybe_type(image, pool, n + 1);
-            crate::exprs::skip_expr(image, pool, m)
+            let m = skip_types::skip_maybe_type(pool, n + 1);
+            crate::exprs::skip_expr(pool, m)
         }
-        StatementKind::Return => crate::exprs::skip_maybe_expr(image, pool, n),
-        StatementKind::Assign => crate::exprs::skip_exprs(image, pool, n, 2),
+        StatementKind::Return => crate::exprs::skip_maybe_expr(pool, n),
+        StatementKind::Assign => crate::exprs::skip_exprs(pool, n, 2),
         StatementKind::Unknown => at,
     }
 }
 
 // The place behind so many statements.
-fn skip_statements(image: &[u8], pool: Section, at: usize, count: u32) -> usize
-    requires { Lies image.now pool }
-    ensures { (names strings n : ℕ) → Pending (StatementAt names strings (section_words image.now pool)) count at n → result ≡ n }
+fn skip_statements(pool: &[u8], at: usize, count: u32) -> usize
+    ensures { (names strings n : ℕ) → Pending (StatementAt names strings (section_words pool.now)) count at n → result ≡ n }
 {
     let mut pending = count;
     let mut next = at;
     while 0 < pending {
-        next = skip_statement(image, pool, next);
+        next = skip_statement(pool, next);
         pending -= 1;
     }
     next
 }
 
 // The place behind 0, or 1 and a block.
-pub fn skip_body(image: &[u8], pool: Section, at: usize) -> usize
-    requires { Lies image.now pool }
-    ensures { (names strings : ℕ) (b : FnBody) (n : ℕ) → BodyAt names strings (section_words image.now pool) b at n → result ≡ n }
+pub fn skip_body(pool: &[u8], at: usize) -> usize
+    ensures { (names strings : ℕ) (b : FnBody) (n : ℕ) → BodyAt names strings (section_words pool.now) b at n → result ≡ n }
 {
-    if pool.len <= at {
+    if image_words::count(pool) <= at {
         return at;
     }
-    if image_words::section_word(image, pool, at) == 0 {
+    if image_words::section_word(pool, at) == 0 {
         return at + 1;
     }
     let place = at + 1;
-    let count = image_words::section_word(image, pool, place);
-    skip_statements(image, pool, place + 1, count)
+    let count = image_words::section_word(pool, place);
+    skip_statements(pool, place + 1, count)
 }

@@ -3,14 +3,13 @@
 
 ghost use Rattle.std.specs.Prelude.{◌≡◌, ℕ, ◌+◌, ◌<◌, get_or};
 ghost use Rattle.rules.specs.Syntax.{ResolvedType, TypeExpr};
-ghost use Rattle.image_words.specs.Verdict.{section_words, Lies};
+ghost use Rattle.image_words.specs.Verdict.{section_words};
 ghost use Rattle.pool_types.specs.TypeAt.{TypeAt};
 ghost use Rattle.pool_type_exprs.specs.TypeExprAt.{TypeExprAt};
 ghost use Rattle.skip_types.specs.Pending.{Pending};
 ghost use Rattle.skip_types.specs.TypeNodes.{type_node};
 ghost use Rattle.skip_types.specs.Clauses.{SkipsMaybeType};
 
-use image_words::Section;
 use rules::kinds::TypeKind;
 
 // A node's own words, and the parts that stand behind them.
@@ -21,15 +20,15 @@ pub struct Node {
 }
 
 // The node of a kind at a place.
-fn type_node(image: &[u8], pool: Section, at: usize, k: TypeKind) -> Node
-    requires { Lies image.now pool × (at < pool.len) }
-    ensures { (result ≡ type_node k (get_or (section_words image.now pool) (at + 1) 0)) × (0 < result.words) × (result.words < 4294967298) × (result.parts < 3) }
+fn type_node(pool: &[u8], at: usize, k: TypeKind) -> Node
+    requires { (at < length (section_words pool.now)) }
+    ensures { (result ≡ type_node k (get_or (section_words pool.now) (at + 1) 0)) × (0 < result.words) × (result.words < 4294967298) × (result.parts < 3) }
 {
     match k {
         TypeKind::Plain => Node { words: 1, parts: 0 },
         TypeKind::Sub => Node { words: 3, parts: 0 },
         TypeKind::Bits => Node {
-            words: 2 + image_words::section_word(image, pool, at + 1) as usize,
+            words: 2 + image_words::section_word(pool, at + 1) as usize,
             parts: 0,
         },
         TypeKind::Named => Node { words: 2, parts: 0 },
@@ -43,18 +42,17 @@ fn type_node(image: &[u8], pool: Section, at: usize, k: TypeKind) -> Node
 }
 
 // The place behind so many type expressions.
-pub fn skip_types(image: &[u8], pool: Section, at: usize, count: u32) -> usize
-    requires { Lies image.now pool }
-    ensures { (names n : ℕ) → Pending (TypeExprAt names (section_words image.now pool)) count at n → result ≡ n }
+pub fn skip_types(pool: &[u8], at: usize, count: u32) -> usize
+    ensures { (names n : ℕ) → Pending (TypeExprAt names (section_words pool.now)) count at n → result ≡ n }
 {
     let mut pending = count as usize;
     let mut next = at;
     while 0 < pending {
-        if pool.len <= next {
+        if image_words::count(pool) <= next {
             return next;
         }
-        let k = codes::type_kind(image_words::section_word(image, pool, next));
-        let node = type_node(image, pool, next, k);
+        let k = codes::type_kind(image_words::section_word(pool, next));
+        let node = type_node(pool, next, k);
         next += node.words;
         pending = pending - 1 + node.parts;
     }
@@ -62,24 +60,22 @@ pub fn skip_types(image: &[u8], pool: Section, at: usize, count: u32) -> usize
 }
 
 // The place behind a type expression; a resolved type is one.
-pub fn skip_type(image: &[u8], pool: Section, at: usize) -> usize
-    requires { Lies image.now pool }
-    ensures resolved { (names : ℕ) (t : ResolvedType) (n : ℕ) → TypeAt names (section_words image.now pool) t at n → result ≡ n }
-    ensures expressions { (names : ℕ) (e : TypeExpr) (n : ℕ) → TypeExprAt names (section_words image.now pool) e at n → result ≡ n }
+pub fn skip_type(pool: &[u8], at: usize) -> usize
+    ensures resolved { (names : ℕ) (t : ResolvedType) (n : ℕ) → TypeAt names (section_words pool.now) t at n → result ≡ n }
+    ensures expressions { (names : ℕ) (e : TypeExpr) (n : ℕ) → TypeExprAt names (section_words pool.now) e at n → result ≡ n }
 {
-    skip_types(image, pool, at, 1)
+    skip_types(pool, at, 1)
 }
 
 // The place behind 0, or 1 and a resolved type.
-pub fn skip_maybe_type(image: &[u8], pool: Section, at: usize) -> usize
-    requires { Lies image.now pool }
-    ensures { SkipsMaybeType image.now pool at result }
+pub fn skip_maybe_type(pool: &[u8], at: usize) -> usize
+    ensures { SkipsMaybeType pool.now at result }
 {
-    if pool.len <= at {
+    if image_words::count(pool) <= at {
         return at;
     }
-    if image_words::section_word(image, pool, at) == 0 {
+    if image_words::section_word(pool, at) == 0 {
         return at + 1;
     }
-    skip_type(image, pool, at + 1)
+    skip_type(pool, at + 1)
 }

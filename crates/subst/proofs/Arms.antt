@@ -113,36 +113,36 @@ both true true e = (refl, refl)
 both true false e = absurd (true_false (sym e))
 both false b e = absurd (true_false (sym e))
 
-module _ (image : List ℕ) (l : Layout) (at left : ℕ) where
+module _ (l : Layout) (at left : ℕ) where
   -- what is known of a node by its parts
-  module _ (node : Node) (h : NodeAt image l at left node) where
-    pub as_parts : (p : Parts) → node.parts ≡ p → PartsAt image l at left p node.first node.alias
-    as_parts p e = subst (λ (p : Parts). PartsAt image l at left p node.first node.alias) e h
+  module _ (node : Node) (h : NodeAt l at left node) where
+    pub as_parts : (p : Parts) → node.parts ≡ p → PartsAt l at left p node.first node.alias
+    as_parts p e = subst (λ (p : Parts). PartsAt l at left p node.first node.alias) e h
 
-    pub as_alias : node.alias.some ≡ true → PartsAt image l at left Parts.Alias node.first node.alias
+    pub as_alias : node.alias.some ≡ true → PartsAt l at left Parts.Alias node.first node.alias
     as_alias e = go node.parts h
       where
-        go : (p : Parts) → PartsAt image l at left p node.first node.alias → PartsAt image l at left Parts.Alias node.first node.alias
+        go : (p : Parts) → PartsAt l at left p node.first node.alias → PartsAt l at left Parts.Alias node.first node.alias
         go Parts.Whole k = absurd (true_false (sym e ∙ k.1))
         go Parts.One k = absurd (true_false (sym e ∙ k.1))
         go Parts.Fixed k = absurd (true_false (sym e ∙ k.1))
         go Parts.Two k = absurd (true_false (sym e ∙ k.1))
         go Parts.Alias k = k
 
-    pub is_whole : node.first ≡ 0 → Read image l at left → WholeAs image l at left (kind_at image l at)
+    pub is_whole : node.first ≡ 0 → Read l at left → WholeAs l at left (kind_at l at)
     is_whole e = go node.parts h
       where
-        go : (p : Parts) → PartsAt image l at left p node.first node.alias → Read image l at left → WholeAs image l at left (kind_at image l at)
+        go : (p : Parts) → PartsAt l at left p node.first node.alias → Read l at left → WholeAs l at left (kind_at l at)
         go Parts.Whole k = k.2
         go Parts.One k = absurd (omega (arith, k.0, e))
         go Parts.Fixed k = absurd (omega (arith, k.0, e))
         go Parts.Two k = absurd (omega (arith, k.0, e))
         go Parts.Alias k = absurd (omega (arith, k.0, e))
 
-    pub is_read : (node.first ≡ 0 → ⊥) → Read image l at left
+    pub is_read : (node.first ≡ 0 → ⊥) → Read l at left
     is_read e = go node.parts h
       where
-        go : (p : Parts) → PartsAt image l at left p node.first node.alias → Read image l at left
+        go : (p : Parts) → PartsAt l at left p node.first node.alias → Read l at left
         go Parts.Whole k = absurd (e k.0)
         go Parts.One k = k.2
         go Parts.Fixed k = k.2
@@ -151,50 +151,50 @@ module _ (image : List ℕ) (l : Layout) (at left : ℕ) where
 
   module _ (params : List ℕ) (a : Resolved) where
     -- a node whose first part is not ok
-    pub stopped : (node : Node) → NodeAt image l at left node → (node.first ≡ 0 → ⊥) → Substitutes image l node.first (left - 1) params a → a.ok ≡ false → Substitutes image l at left params a
+    pub stopped : (node : Node) → NodeAt l at left node → (node.first ≡ 0 → ⊥) → Substitutes l node.first (left - 1) params a → a.ok ≡ false → Substitutes l at left params a
     unfolding plain_node
     stopped node h f q e = go node.parts h
       where
-        q_at : (n : ℕ) → node.first ≡ n → Substitutes image l n (left - 1) params a
-        q_at n x = subst (λ (n : ℕ). Substitutes image l n (left - 1) params a) x q
+        q_at : (n : ℕ) → node.first ≡ n → Substitutes l n (left - 1) params a
+        q_at n x = subst (λ (n : ℕ). Substitutes l n (left - 1) params a) x q
 
-        go : (p : Parts) → PartsAt image l at left p node.first node.alias → Substitutes image l at left params a
+        go : (p : Parts) → PartsAt l at left p node.first node.alias → Substitutes l at left params a
         go Parts.Whole k = absurd (f k.0)
         go Parts.One k =
-            of_one image l at left params a (λ z. omega (arith, k.2.0, z)) k.3
+            of_one l at left params a (λ z. omega (arith, k.2.0, z)) k.3
             (λ s o f le ps w c x n y. one_stop l.names.rows (left - 1) n (plain_depth s f ps x) (ResolvedType.one c) a (q_at _ k.0 s o f le ps w x n (one_stands c x y).part) e)
         go Parts.Fixed k =
-            of_fixed image l at left params a (λ z. omega (arith, k.2.0, z)) k.3
+            of_fixed l at left params a (λ z. omega (arith, k.2.0, z)) k.3
             (λ s o f le ps w c d x n y. one_stop l.names.rows (left - 1) n (plain_depth s f ps x) (ResolvedType.fixed c d) a (q_at _ k.0 s o f le ps w x n (fixed_stands c d x y).part) e)
         go Parts.Two k =
-            of_two image l at left params a (λ z. omega (arith, k.2.0, z)) k.3
+            of_two l at left params a (λ z. omega (arith, k.2.0, z)) k.3
             (λ s o f le ps w c x v n y. let p = two_stands c x v y in two_stop l.names.rows (left - 1) p.middle (plain_depth s f ps x) (λ t. plain_depth s f ps v) (ResolvedType.two c) a (q_at _ k.0 s o f le ps w x p.middle p.left) e n)
         go Parts.Alias k =
-            of_generic image l at left params a (λ z. omega (arith, k.2.0, z)) k.3
+            of_generic l at left params a (λ z. omega (arith, k.2.0, z)) k.3
             (λ s o f le ps w x y n z.
             let p = generic_stands x y z in
-            let found = an_alias l.names.rows (pool_words image l) node.alias (lookup_alias s (name_at image l at)) (k.4 s o (omega (arith, p.name, p.below))) k.1 in
+            let found = an_alias l.names.rows (pool_words l) node.alias (lookup_alias s (name_at l at)) (k.4 s o (omega (arith, p.name, p.below))) k.1 in
             says_as (is_expanded s (plain_depth s f) ps x y found.param (ap (lookup_alias s) (sym p.name) ∙ found.is))
             (two_stop l.names.rows (left - 1) n (plain_depth s f ps y) (λ t. plain_depth s f (record { name = found.param.name; ty = t } ∷ []) found.param.ty) (λ t u. u) a (q_at _ k.0 s o f le ps w y n p.part) e n))
 
     -- the words of a node and of its first part, where that is ok
     module _ (ok : a.ok ≡ true) (w' : List ℕ) (g : Longer) (z : left ≡ 0 → ⊥) where
-      pub one_arm : kind_at image l at ≡ TypeKind.One → Substitutes image l (at + 1) (left - 1) params a → (c : ℕ) → c ≡ get_or (pool_words image l) at 0 → Grows (c ∷ take a.ty.len a.ty.words) (lent g w' a.ty.poison)
-          → Substitutes image l at left params (record { ok = g.ok; next = a.next; left = a.left; ty = record { words = w'; len = g.len; poison = a.ty.poison } })
+      pub one_arm : kind_at l at ≡ TypeKind.One → Substitutes l (at + 1) (left - 1) params a → (c : ℕ) → c ≡ get_or (pool_words l) at 0 → Grows (c ∷ take a.ty.len a.ty.words) (lent g w' a.ty.poison)
+          → Substitutes l at left params (record { ok = g.ok; next = a.next; left = a.left; ty = record { words = w'; len = g.len; poison = a.ty.poison } })
       unfolding plain_node
       one_arm is q c e grows =
-          of_one image l at left params _ z is
+          of_one l at left params _ z is
           (λ s o f le ps w k x n y.
           let p = one_stands k x y in
           one_end l.names.rows (left - 1) n (plain_depth s f ps x) (ResolvedType.one k) a (q s o f le ps w x n p.part) ok (lent g w' a.ty.poison)
           (λ t h. one_built h refl (subst₂ (λ (c : ℕ) (r : List ℕ). Grows (c ∷ r) (lent g w' a.ty.poison)) (e ∙ p.code) (held a.ty) grows) p.kind))
 
-      pub fixed_arm : kind_at image l at ≡ TypeKind.Fixed → Substitutes image l (at + 1 + 1 + 1) (left - 1) params a
-          → (low high : ℕ) → low ≡ get_or (pool_words image l) (at + 1) 0 → high ≡ get_or (pool_words image l) (at + 1 + 1) 0 → Grows (66 ∷ low ∷ high ∷ take a.ty.len a.ty.words) (lent g w' a.ty.poison)
-          → Substitutes image l at left params (record { ok = g.ok; next = a.next; left = a.left; ty = record { words = w'; len = g.len; poison = a.ty.poison } })
+      pub fixed_arm : kind_at l at ≡ TypeKind.Fixed → Substitutes l (at + 1 + 1 + 1) (left - 1) params a
+          → (low high : ℕ) → low ≡ get_or (pool_words l) (at + 1) 0 → high ≡ get_or (pool_words l) (at + 1 + 1) 0 → Grows (66 ∷ low ∷ high ∷ take a.ty.len a.ty.words) (lent g w' a.ty.poison)
+          → Substitutes l at left params (record { ok = g.ok; next = a.next; left = a.left; ty = record { words = w'; len = g.len; poison = a.ty.poison } })
       unfolding plain_node
       fixed_arm is q low high e₁ e₂ grows =
-          of_fixed image l at left params _ z is
+          of_fixed l at left params _ z is
           (λ s o f le ps w c d x n y.
           let p = fixed_stands c d x y in
           one_end l.names.rows (left - 1) n (plain_depth s f ps x) (ResolvedType.fixed c d) a (q s o f le ps w x n p.part) ok (lent g w' a.ty.poison)
@@ -204,11 +204,11 @@ module _ (image : List ℕ) (l : Layout) (at left : ℕ) where
           words low high c d e f = rw (e, f, held a.ty)
 
       -- no room for the first part behind its code
-      pub two_full : kind_at image l at ≡ TypeKind.Two → Substitutes image l (at + 1) (left - 1) params a → (c : ℕ) → Grows (c ∷ take a.ty.len a.ty.words) (lent g w' false) → g.ok ≡ false
-          → (r : Resolved) → r.ok ≡ false → Substitutes image l at left params r
+      pub two_full : kind_at l at ≡ TypeKind.Two → Substitutes l (at + 1) (left - 1) params a → (c : ℕ) → Grows (c ∷ take a.ty.len a.ty.words) (lent g w' false) → g.ok ≡ false
+          → (r : Resolved) → r.ok ≡ false → Substitutes l at left params r
       unfolding plain_node
       two_full is q c grows full r e =
-          of_two image l at left params r z is
+          of_two l at left params r z is
           (λ s o f le ps w k x v n y.
           let p = two_stands k x v y in
           let said = q s o f le ps w x p.middle p.left in
@@ -222,37 +222,37 @@ module _ (image : List ℕ) (l : Layout) (at left : ℕ) where
           over h full k e = let o : 64 < length (c ∷ take a.ty.len a.ty.words) = leb-false (length (c ∷ take a.ty.len a.ty.words)) 64 (sym h.ok ∙ full) in omega (arith, e)
 
       -- the second part behind the code and the first
-      pub two_arm : kind_at image l at ≡ TypeKind.Two → Substitutes image l (at + 1) (left - 1) params a → (c : ℕ) → c ≡ get_or (pool_words image l) at 0 → Grows (c ∷ take a.ty.len a.ty.words) (lent g w' false) → g.ok ≡ true
+      pub two_arm : kind_at l at ≡ TypeKind.Two → Substitutes l (at + 1) (left - 1) params a → (c : ℕ) → c ≡ get_or (pool_words l) at 0 → Grows (c ∷ take a.ty.len a.ty.words) (lent g w' false) → g.ok ≡ true
           → (e : End) (w'' : List ℕ)
-          → Each image l a.next a.left params (resolved e w'') (λ s f ps. (x : TypeExpr) (m : ℕ) → At image l a.next a.left x m → Adds l.names.rows a.left m (plain_depth s f ps x) (take g.len w') w'' e)
+          → Each l a.next a.left params (resolved e w'') (λ s f ps. (x : TypeExpr) (m : ℕ) → At l a.next a.left x m → Adds l.names.rows a.left m (plain_depth s f ps x) (take g.len w') w'' e)
           → a.left ≤ left - 1
-          → Substitutes image l at left params (resolved (also a.ty.poison e) w'')
+          → Substitutes l at left params (resolved (also a.ty.poison e) w'')
       unfolding plain_node
       two_arm is q c i grows grew e w'' adds falls =
-          of_two image l at left params _ z is
+          of_two l at left params _ z is
           (λ s o f le ps w k x v n y.
           let p = two_stands k x v y in
           let said = q s o f le ps w x p.middle p.left in
           let t = said.ok ok in
-          let more = adds s o f (omega (arith, falls, le)) ps w v n (subst (λ (m : ℕ). ExprStands l.names.rows (pool_words image l) v m n) (sym t.next) p.right) in
+          let more = adds s o f (omega (arith, falls, le)) ps w v n (subst (λ (m : ℕ). ExprStands l.names.rows (pool_words l) v m n) (sym t.next) p.right) in
           let front : take g.len w' ≡ k ∷ run t.ty = grown_run grows grew ∙ rw (i, p.code, held a.ty, t.holds.run) in
           adds_says (two_fits l.names.rows (left - 1) p.middle (plain_depth s f ps x) (plain_depth s f ps v) k a said)
           (two_adds l.names.rows (left - 1) p.middle (plain_depth s f ps x) (plain_depth s f ps v) k a said ok p.kind n [] w'' e
           (subst (λ (b : List ℕ). Adds l.names.rows a.left n (plain_depth s f ps v) b w'' e) front more)))
 
     -- the alias's target with its argument in view
-    pub alias_arm : (alias : Alias) → (left ≡ 0 → ⊥) → kind_at image l at ≡ TypeKind.Generic → alias.some ≡ true → Told image l at (λ s. IsAlias l.names.rows (pool_words image l) alias (lookup_alias s (name_at image l at)))
-        → Substitutes image l (at + 1 + 1) (left - 1) params a → a.ok ≡ true → a.left ≤ left - 1
+    pub alias_arm : (alias : Alias) → (left ≡ 0 → ⊥) → kind_at l at ≡ TypeKind.Generic → alias.some ≡ true → Told l at (λ s. IsAlias l.names.rows (pool_words l) alias (lookup_alias s (name_at l at)))
+        → Substitutes l (at + 1 + 1) (left - 1) params a → a.ok ≡ true → a.left ≤ left - 1
         → (r : Resolved) → r.next ≡ a.next
-        → ((s : CompiledSchema) → Open image l s → (f : ℕ) → a.left ≤ f
-        → (p : Param TypeExpr) → alias.param.0 ≡ p.name → (end : ℕ) → ExprStands l.names.rows (pool_words image l) p.ty alias.target end
+        → ((s : CompiledSchema) → Open l s → (f : ℕ) → a.left ≤ f
+        → (p : Param TypeExpr) → alias.param.0 ≡ p.name → (end : ℕ) → ExprStands l.names.rows (pool_words l) p.ty alias.target end
         → (t : ResolvedType) → Holds l.names.rows a.ty t → Says l.names.rows a.left a.next (plain_depth s f (record { name = p.name; ty = t } ∷ []) p.ty) r)
-        → Substitutes image l at left params r
+        → Substitutes l at left params r
     alias_arm alias z is some told q ok falls r e expands =
-        of_generic image l at left params r z is
+        of_generic l at left params r z is
         (λ s o f le ps w x y n k.
         let p = generic_stands x y k in
-        let found = an_alias l.names.rows (pool_words image l) alias (lookup_alias s (name_at image l at)) (told s o (omega (arith, p.name, p.below))) some in
+        let found = an_alias l.names.rows (pool_words l) alias (lookup_alias s (name_at l at)) (told s o (omega (arith, p.name, p.below))) some in
         let said = q s o f le ps w y n p.part in
         let t = said.ok ok in
         let target = expands s o f (omega (arith, falls, le)) found.param found.name found.end found.target t.ty t.holds in
@@ -261,36 +261,36 @@ module _ (image : List ℕ) (l : Layout) (at left : ℕ) where
         (λ t u. refl) n r refl (e ∙ t.next) refl refl))
 
     -- an expression by itself, put behind the words
-    pub appends_whole : Substitutes image l at left params a → (n len : ℕ) → len ≡ n → (words w₁ w₂ : List ℕ) (g : Longer) → take n w₁ ≡ take n words → Grows (take len w₁ ++ held_run a.ty) (lent g w₂ false)
+    pub appends_whole : Substitutes l at left params a → (n len : ℕ) → len ≡ n → (words w₁ w₂ : List ℕ) (g : Longer) → take n w₁ ≡ take n words → Grows (take len w₁ ++ held_run a.ty) (lent g w₂ false)
         → (r : End) → r.ok ≡ (a.ok && g.ok) → r.poison ≡ a.ty.poison → r.next ≡ a.next → r.left ≡ a.left → r.len ≡ g.len
-        → Each image l at left params (resolved r w₂) (λ s f ps. (e : TypeExpr) (m : ℕ) → At image l at left e m → Adds l.names.rows left m (plain_depth s f ps e) (take n words) w₂ r)
+        → Each l at left params (resolved r w₂) (λ s f ps. (e : TypeExpr) (m : ℕ) → At l at left e m → Adds l.names.rows left m (plain_depth s f ps e) (take n words) w₂ r)
     appends_whole q n len same words w₁ w₂ g kept grows r e₁ e₂ e₃ e₄ e₅ s o f le ps w x m y =
         put_behind (q s o f le ps w x m y) (subst (λ (b : List ℕ). Grows (b ++ held_run a.ty) (lent g w₂ false)) (ap (λ (k : ℕ). take k w₁) same ∙ kept) grows) refl r e₁ e₂ e₃ e₄ e₅
 
     -- a node of two parts: its code, its first part, and what comes of its second
-    module _ (z : 0 < left) (is : kind_at image l at ≡ TypeKind.Two) (q : Substitutes image l (at + 1) (left - 1) params a) (n c : ℕ) (i : c ≡ get_or (pool_words image l) at 0)
+    module _ (z : 0 < left) (is : kind_at l at ≡ TypeKind.Two) (q : Substitutes l (at + 1) (left - 1) params a) (n c : ℕ) (i : c ≡ get_or (pool_words l) at 0)
         (words w₁ w₂ : List ℕ) (g : Longer) (put : take (n + 1) w₁ ≡ take n words ++ (c ∷ [])) (len : ℕ) (len_is : len ≡ n + 1) (grows : Grows (take len w₁ ++ held_run a.ty) (lent g w₂ false)) where
       front_is : take len w₁ ≡ take n words ++ (c ∷ [])
       front_is = ap (λ (k : ℕ). take k w₁) len_is ∙ put
 
-      two_form : (e : TypeExpr) (m : ℕ) → At image l at left e m → Form TypeKind.Two e
+      two_form : (e : TypeExpr) (m : ℕ) → At l at left e m → Form TypeKind.Two e
       two_form e m y = subst (λ (k : TypeKind). Form k e) (sym (expr_head l.names.rows e y.stored.good y.run_at) ∙ is) (form l.names.rows e y.stored.good)
 
       -- the same of each node of two parts that could stand there
       by_form : {r : End} {w₃ : List ℕ} (s : CompiledSchema) (f : ℕ) (ps : List (Param ResolvedType))
-          → ((k : ℕ) (x v : TypeExpr) (m : ℕ) → At image l at left (TypeExpr.two k x v) m → Adds l.names.rows (suc (left - 1)) m (plain_node s (plain_depth s f) ps (TypeExpr.two k x v)) (take n words) w₃ r)
-          → (e : TypeExpr) (m : ℕ) → At image l at left e m → Adds l.names.rows left m (plain_depth s (suc f) ps e) (take n words) w₃ r
+          → ((k : ℕ) (x v : TypeExpr) (m : ℕ) → At l at left (TypeExpr.two k x v) m → Adds l.names.rows (suc (left - 1)) m (plain_node s (plain_depth s f) ps (TypeExpr.two k x v)) (take n words) w₃ r)
+          → (e : TypeExpr) (m : ℕ) → At l at left e m → Adds l.names.rows left m (plain_depth s (suc f) ps e) (take n words) w₃ r
       unfolding plain_depth
       by_form {r} {w₃} s f ps h e m y =
           let q = two_form e m y in
           let left_is : suc (left - 1) ≡ left = omega (arith, z) in
           subst (λ (k : ℕ). Adds l.names.rows k m (plain_node s (plain_depth s f) ps e) (take n words) w₃ r) left_is
-          (subst (λ (e : TypeExpr). At image l at left e m → Adds l.names.rows (suc (left - 1)) m (plain_node s (plain_depth s f) ps e) (take n words) w₃ r) q.3 (h q.0 q.1 q.2 m) y)
+          (subst (λ (e : TypeExpr). At l at left e m → Adds l.names.rows (suc (left - 1)) m (plain_node s (plain_depth s f) ps e) (take n words) w₃ r) q.3 (h q.0 q.1 q.2 m) y)
 
       pub appends_two : a.ok ≡ true → g.ok ≡ true → a.left ≤ left - 1
           → (r : End) (w₃ : List ℕ)
-          → Each image l a.next a.left params (resolved r w₃) (λ s f ps. (x : TypeExpr) (m : ℕ) → At image l a.next a.left x m → Adds l.names.rows a.left m (plain_depth s f ps x) (take g.len w₂) w₃ r)
-          → Each image l at left params (resolved r w₃) (λ s f ps. (e : TypeExpr) (m : ℕ) → At image l at left e m → Adds l.names.rows left m (plain_depth s f ps e) (take n words) w₃ (also a.ty.poison r))
+          → Each l a.next a.left params (resolved r w₃) (λ s f ps. (x : TypeExpr) (m : ℕ) → At l a.next a.left x m → Adds l.names.rows a.left m (plain_depth s f ps x) (take g.len w₂) w₃ r)
+          → Each l at left params (resolved r w₃) (λ s f ps. (e : TypeExpr) (m : ℕ) → At l at left e m → Adds l.names.rows left m (plain_depth s f ps e) (take n words) w₃ (also a.ty.poison r))
       unfolding plain_node
       appends_two ok grew falls r w₃ adds s o zero le ps w = absurd (omega (arith, z, le))
       appends_two ok grew falls r w₃ adds s o (suc f) le ps w =
@@ -299,13 +299,13 @@ module _ (image : List ℕ) (l : Layout) (at left : ℕ) where
           let p = two_stands k x v y in
           let said = q s o f (omega arith) ps w x p.middle p.left in
           let t = said.ok ok in
-          let more = adds s o f (omega (arith, falls, le)) ps w v m (subst (λ (at : ℕ). ExprStands l.names.rows (pool_words image l) v at m) (sym t.next) p.right) in
+          let more = adds s o f (omega (arith, falls, le)) ps w v m (subst (λ (at : ℕ). ExprStands l.names.rows (pool_words l) v at m) (sym t.next) p.right) in
           let front : take g.len w₂ ≡ take n words ++ (k ∷ run t.ty) = grown_run grows grew ∙ rw (front_is, t.holds.run, append_assoc (take n words) (c ∷ []) (run t.ty), i, p.code) in
           two_adds l.names.rows (left - 1) p.middle (plain_depth s f ps x) (plain_depth s f ps v) k a said ok p.kind m (take n words) w₃ r
           (subst (λ (b : List ℕ). Adds l.names.rows a.left m (plain_depth s f ps v) b w₃ r) front more))
 
       pub appends_two_no : (a.ok && g.ok) ≡ false → (r : End) → r.ok ≡ false → (w₃ : List ℕ)
-          → Each image l at left params (resolved r w₃) (λ s f ps. (e : TypeExpr) (m : ℕ) → At image l at left e m → Adds l.names.rows left m (plain_depth s f ps e) (take n words) w₃ r)
+          → Each l at left params (resolved r w₃) (λ s f ps. (e : TypeExpr) (m : ℕ) → At l at left e m → Adds l.names.rows left m (plain_depth s f ps e) (take n words) w₃ r)
       unfolding plain_node
       appends_two_no e r not_ok w₃ s o zero le ps w = absurd (omega (arith, z, le))
       appends_two_no e r not_ok w₃ s o (suc f) le ps w =

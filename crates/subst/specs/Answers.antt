@@ -14,7 +14,7 @@ Answers names n too_large r = r.ok ≡ false
 Answers names n (done visits t) r = (r.ok ≡ true) × (r.visits ≡ visits) × (r.next ≡ n) × Holds names r.ty t
 
 -- for each schema that the image holds, type parameters in view, and expression that stands at `at`
-abbrev pub AnswersAll : List ℕ → Layout → ℕ → List ℕ → Substituted → Type 0
-AnswersAll image l at params r =
-    (s : CompiledSchema) → Open image l s → (ps : List (Param ResolvedType)) → Views l.names.rows params 0 ps
-    → (e : TypeExpr) (n : ℕ) → ExprStands l.names.rows (pool_words image l) e at n → Answers l.names.rows n (substitute_type s ps e) r
+abbrev pub AnswersAll : Layout → ℕ → List ℕ → Substituted → Type 0
+AnswersAll l at params r =
+    (s : CompiledSchema) → Open l s → (ps : List (Param ResolvedType)) → Views l.names.rows params 0 ps
+    → (e : TypeExpr) (n : ℕ) → ExprStands l.names.rows (pool_words l) e at n → Answers l.names.rows n (substitute_type s ps e) r

@@ -49,17 +49,17 @@ pub record Lends (left : ℕ) (words : List ℕ) (r : End) (Means : Type 0) : Ty
   pub wide : length words ≡ 64
   pub means : Means
 
-module _ (image : List ℕ) (l : Layout) where
+module _ (l : Layout) where
   -- the expression's words behind the first n
   abbrev pub Appends : ℕ → ℕ → List ℕ → List ℕ → ℕ → End → List ℕ → Type 0
   Appends at left params words n r words' =
-      Lends left words' r (Each image l at left params (resolved r words') (λ s f ps. (e : TypeExpr) (m : ℕ) → At image l at left e m → Adds l.names.rows left m (plain_depth s f ps e) (take n words) words' r))
+      Lends left words' r (Each l at left params (resolved r words') (λ s f ps. (e : TypeExpr) (m : ℕ) → At l at left e m → Adds l.names.rows left m (plain_depth s f ps e) (take n words) words' r))
 
   -- the alias's target in the place of its argument, which is the first n words with what they say of poison; the place behind the alias is any, since the caller has it
   abbrev pub Expands : Alias → ℕ → List ℕ → ℕ → Bool → End → List ℕ → Type 0
   Expands alias left words n poison r words' =
       (r.next ≡ 0) × Lends left words' r
-      ((s : CompiledSchema) → Open image l s → (f : ℕ) → left ≤ f
-      → (p : Param TypeExpr) → alias.param.0 ≡ p.name → (end : ℕ) → ExprStands l.names.rows (pool_words image l) p.ty alias.target end
+      ((s : CompiledSchema) → Open l s → (f : ℕ) → left ≤ f
+      → (p : Param TypeExpr) → alias.param.0 ≡ p.name → (end : ℕ) → ExprStands l.names.rows (pool_words l) p.ty alias.target end
       → (t : ResolvedType) → Holds l.names.rows (record { words = words; len = n; poison = poison }) t
       → (next : ℕ) → Says l.names.rows left next (plain_depth s f (record { name = p.name; ty = t } ∷ []) p.ty) (resolved_at next r words'))

@@ -34,28 +34,27 @@ pub struct End {
 // and it goes on with the second.
 #[cycle(append_expand_resolve)]
 fn append(
-    image: &[u8],
-    l: Layout,
+    l: &Layout,
     at: usize,
     left: u32,
     params: &[u32],
     words: &mut [u32; TYPE_WORDS],
     n: usize,
 ) -> End
-    requires { Cut image.now l × (length words.old ≡ 64) × (n ≤ 64) }
-    ensures { Appends image.now l at left params.now words.old n result words.new }
+    requires { Cut l.now × (length words.old ≡ 64) × (n ≤ 64) }
+    ensures { Appends l.now at left params.now words.old n result words.new }
 {
-    let node = node_at(image, l, at, left);
+    let node = node_at(l, at, left);
     let start = start_behind(node, at, left, n);
     let pool = l.pool;
-    put_at(words, n, image_words::section_word(image, pool, at));
+    put_at(words, n, image_words::section_word(pool, at));
     let mut b = nothing();
-    resolve(image, l, start.at, start.left, params, &mut b);
+    resolve(l, start.at, start.left, params, &mut b);
     let g = push_back(words, start.len, b.ty);
     let ok = b.ok & g.ok;
     if start.again {
         if ok {
-            let mut rest = append(image, l, b.next, b.left, params, words, g.len);
+            let mut rest = append(l, b.next, b.left, params, words, g.len);
             rest.poison = b.ty.poison | rest.poison;
             return rest;
         }
@@ -74,16 +73,15 @@ fn append(
 // which the caller has.
 #[cycle(append_expand_resolve)]
 fn expand(
-    image: &[u8],
-    l: Layout,
+    l: &Layout,
     alias: Alias,
     left: u32,
     words: &mut [u32; TYPE_WORDS],
     n: usize,
     poison: bool,
 ) -> End
-    requires { Cut image.now l × (length words.old ≡ 64) }
-    ensures { Expands image.now l alias left words.old n poison result words.new }
+    requires { Cut l.now × (length words.old ≡ 64) }
+    ensures { Expands l.now alias left words.old n poison result words.new }
 {
     let given = *words;
     let argument = HeldType {
@@ -95,10 +93,10 @@ fn expand(
     subst_params::write_row(&mut own, 0, alias.param, argument);
     let view = subst_params::rows(&own, 1);
     let target = alias.target;
-    let node = node_at(image, l, target, left);
+    let node = node_at(l, target, left);
     let start = start_of(node, target, left);
     let mut b = nothing();
-    resolve(image, l, start.at, start.left, view, &mut b);
+    resolve(l, start.at, start.left, view, &mut b);
     let ty = b.ty;
     let len = ty.len;
     let own_words = ty.words;
@@ -106,7 +104,7 @@ fn expand(
     let again = node.alias;
     if again.some {
         if b.ok {
-            return expand(image, l, again, b.left, words, len, ty.poison);
+            return expand(l, again, b.left, words, len, ty.poison);
         }
     }
     End {
@@ -120,18 +118,18 @@ fn expand(
 
 // What the expression at `at` resolves to, in a lent place: so a frame of the cycle has no place for it.
 #[cycle(append_expand_resolve)]
-fn resolve(image: &[u8], l: Layout, at: usize, left: u32, params: &[u32], a: &mut Resolved)
-    requires { Cut image.now l }
-    ensures keeps { Keeps left a.new (Substitutes image.now l at left params.now a.new) }
+fn resolve(l: &Layout, at: usize, left: u32, params: &[u32], a: &mut Resolved)
+    requires { Cut l.now }
+    ensures keeps { Keeps left a.new (Substitutes l.now at left params.now a.new) }
     ensures wide { length a.new.ty.words ≡ 64 }
 {
-    let node = node_at(image, l, at, left);
+    let node = node_at(l, at, left);
     let first = node.first;
     if first == 0 {
-        whole_into(image, l, at, left, params, a);
+        whole_into(l, at, left, params, a);
         return;
     }
-    resolve(image, l, first, left - 1, params, a);
+    resolve(l, first, left - 1, params, a);
     if !a.ok {
         return;
     }
@@ -146,28 +144,28 @@ fn resolve(image: &[u8], l: Layout, at: usize, left: u32, params: &[u32], a: &mu
             return;
         }
         Parts::One => {
-            let code = image_words::section_word(image, pool, at);
+            let code = image_words::section_word(pool, at);
             let g = push_front(code, &mut a.ty.words, n);
             a.ok = g.ok;
             a.ty.len = g.len;
             return;
         }
         Parts::Fixed => {
-            let low = image_words::section_word(image, pool, at + 1);
-            let high = image_words::section_word(image, pool, at + 1 + 1);
+            let low = image_words::section_word(pool, at + 1);
+            let high = image_words::section_word(pool, at + 1 + 1);
             let g = push_fixed(low, high, &mut a.ty.words, n);
             a.ok = g.ok;
             a.ty.len = g.len;
             return;
         }
         Parts::Two => {
-            let code = image_words::section_word(image, pool, at);
+            let code = image_words::section_word(pool, at);
             let g = push_front(code, &mut a.ty.words, n);
             if !g.ok {
                 a.ok = false;
                 return;
             }
-            let e = append(image, l, next, rest, params, &mut a.ty.words, g.len);
+            let e = append(l, next, rest, params, &mut a.ty.words, g.len);
             a.ok = e.ok;
             a.next = e.next;
             a.left = e.left;
@@ -177,7 +175,7 @@ fn resolve(image: &[u8], l: Layout, at: usize, left: u32, params: &[u32], a: &mu
         }
         Parts::Alias => {
             let poison = a.ty.poison;
-            let e = expand(image, l, node.alias, rest, &mut a.ty.words, n, poison);
+            let e = expand(l, node.alias, rest, &mut a.ty.words, n, poison);
             a.ok = e.ok;
             a.left = e.left;
             a.ty.len = e.len;
@@ -188,12 +186,12 @@ fn resolve(image: &[u8], l: Layout, at: usize, left: u32, params: &[u32], a: &mu
 }
 
 // A node that is whole, in the lent place. A function of its own, so that its answer's place is in no frame of the cycle.
-fn whole_into(image: &[u8], l: Layout, at: usize, left: u32, params: &[u32], a: &mut Resolved)
-    requires { Cut image.now l }
-    ensures keeps { Keeps left a.new (ResolvesWhole image.now l at left params.now a.new) }
+fn whole_into(l: &Layout, at: usize, left: u32, params: &[u32], a: &mut Resolved)
+    requires { Cut l.now }
+    ensures keeps { Keeps left a.new (ResolvesWhole l.now at left params.now a.new) }
     ensures wide { length a.new.ty.words ≡ 64 }
 {
-    *a = resolve_whole(image, l, at, left, params);
+    *a = resolve_whole(l, at, left, params);
 }
 
 // A place for what comes of an expression.
@@ -210,11 +208,11 @@ fn nothing() -> Resolved {
     }
 }
 
-pub fn substitute_type(image: &[u8], l: Layout, at: usize, left: u32, params: &[u32]) -> Resolved
-    requires { Cut image.now l }
-    ensures { Keeps left result (Substitutes image.now l at left params.now result) }
+pub fn substitute_type(l: &Layout, at: usize, left: u32, params: &[u32]) -> Resolved
+    requires { Cut l.now }
+    ensures { Keeps left result (Substitutes l.now at left params.now result) }
 {
     let mut a = nothing();
-    resolve(image, l, at, left, params, &mut a);
+    resolve(l, at, left, params, &mut a);
     a
 }

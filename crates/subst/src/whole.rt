@@ -16,11 +16,11 @@ pub struct Substituted {
 }
 
 // The expression at `at` with these type parameters in view: at most 1,024 visits, and no run over 64 words.
-pub fn substitute(image: &[u8], l: Layout, at: usize, params: &[u32]) -> Substituted
-    requires { Cut image.now l }
-    ensures { AnswersAll image.now l at params.now result }
+pub fn substitute(l: &Layout, at: usize, params: &[u32]) -> Substituted
+    requires { Cut l.now }
+    ensures { AnswersAll l.now at params.now result }
 {
-    let r = crate::cycle::substitute_type(image, l, at, VISITS, params);
+    let r = crate::cycle::substitute_type(l, at, VISITS, params);
     let ty = r.ty;
     Substituted {
         ok: r.ok,

@@ -11,10 +11,10 @@ use Rattle.type_from_pool.specs.Held.{ExprStands}
 use Rattle.subst_leaves.specs.declared.Resolved.{Resolved}
 use Rattle.subst_leaves.specs.Says.{Says}
 
-module _ (image : List ℕ) (l : Layout) (at left : ℕ) where
+module _ (l : Layout) (at left : ℕ) where
   -- e stands at `at` and ends before n
   abbrev pub At : TypeExpr → ℕ → Type 0
-  At e n = ExprStands l.names.rows (pool_words image l) e at n
+  At e n = ExprStands l.names.rows (pool_words l) e at n
 
   -- one visit, and this type
   abbrev pub OneVisit : ℕ → ResolvedType → Resolved → Type 0
@@ -24,7 +24,7 @@ module _ (image : List ℕ) (l : Layout) (at left : ℕ) where
   Leaves r = (t : ResolvedType) (n : ℕ) → At (TypeExpr.leaf t) n → OneVisit n t r
 
   abbrev pub Qualifieds : Resolved → Type 0
-  Qualifieds r = (s : CompiledSchema) → Open image l s → (q x n : ℕ) → At (TypeExpr.qualified q x) n → OneVisit n (named_or_poison (lookup_qualified s q x)) r
+  Qualifieds r = (s : CompiledSchema) → Open l s → (q x n : ℕ) → At (TypeExpr.qualified q x) n → OneVisit n (named_or_poison (lookup_qualified s q x)) r
 
   -- whatever stands there is passed over
   abbrev pub Poisons : Resolved → Type 0
@@ -32,11 +32,11 @@ module _ (image : List ℕ) (l : Layout) (at left : ℕ) where
 
   module _ (params : List ℕ) (r : Resolved) where
     abbrev pub Names : Type 0
-    Names = (s : CompiledSchema) → Open image l s → (ps : List (Param ResolvedType)) → Views l.names.rows params 0 ps → (x n : ℕ) → At (TypeExpr.named x) n → OneVisit n (resolve_name s ps x) r
+    Names = (s : CompiledSchema) → Open l s → (ps : List (Param ResolvedType)) → Views l.names.rows params 0 ps → (x n : ℕ) → At (TypeExpr.named x) n → OneVisit n (resolve_name s ps x) r
 
     -- for each schema that the image holds, type parameters in view, and depth for the visits left
     abbrev pub Each : (CompiledSchema → ℕ → List (Param ResolvedType) → Type 0) → Type 0
-    Each P = (s : CompiledSchema) → Open image l s → (f : ℕ) → left ≤ f → (ps : List (Param ResolvedType)) → Views l.names.rows params 0 ps → P s f ps
+    Each P = (s : CompiledSchema) → Open l s → (f : ℕ) → left ≤ f → (ps : List (Param ResolvedType)) → Views l.names.rows params 0 ps → P s f ps
 
     -- the whole expression
     abbrev pub Substitutes : Type 0

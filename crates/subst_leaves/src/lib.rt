@@ -32,11 +32,11 @@ pub fn failed() -> Resolved
 }
 
 // A type that stands for itself.
-pub fn leaf(image: &[u8], l: Layout, at: usize, left: u32) -> Resolved
-    requires { Inside image.now l }
-    ensures { Keeps left result (Leaves image.now l at left result) }
+pub fn leaf(l: &Layout, at: usize, left: u32) -> Resolved
+    requires { Inside l.now }
+    ensures { Keeps left result (Leaves l.now at left result) }
 {
-    let h = type_from_pool::hold_type(image, l, at);
+    let h = type_from_pool::hold_type(l, at);
     let ty = h.ty;
     Resolved {
         ok: true,
@@ -46,44 +46,44 @@ pub fn leaf(image: &[u8], l: Layout, at: usize, left: u32) -> Resolved
     }
 }
 
-pub fn named(image: &[u8], l: Layout, at: usize, left: u32, params: &[u32]) -> Resolved
-    requires { Inside image.now l × (at < l.pool.len) }
-    ensures { Keeps left result (Names image.now l at left params.now result) }
+pub fn named(l: &Layout, at: usize, left: u32, params: &[u32]) -> Resolved
+    requires { Inside l.now × (at < length (pool_words l.now)) }
+    ensures { Keeps left result (Names l.now at left params.now result) }
 {
     let pool = l.pool;
-    let x = NameId(image_words::section_word(image, pool, at + 1));
+    let x = NameId(image_words::section_word(pool, at + 1));
     Resolved {
         ok: true,
         next: at + 1 + 1,
         left,
-        ty: subst_names::names::resolve_name(image, l, params, x),
+        ty: subst_names::names::resolve_name(l, params, x),
     }
 }
 
-pub fn qualified(image: &[u8], l: Layout, at: usize, left: u32) -> Resolved
-    requires { Cut image.now l × (at < l.pool.len) }
-    ensures { Keeps left result (Qualifieds image.now l at left result) }
+pub fn qualified(l: &Layout, at: usize, left: u32) -> Resolved
+    requires { Cut l.now × (at < length (pool_words l.now)) }
+    ensures { Keeps left result (Qualifieds l.now at left result) }
 {
     let pool = l.pool;
-    let namespace = NameId(image_words::section_word(image, pool, at + 1));
-    let x = NameId(image_words::section_word(image, pool, at + 1 + 1));
+    let namespace = NameId(image_words::section_word(pool, at + 1));
+    let x = NameId(image_words::section_word(pool, at + 1 + 1));
     Resolved {
         ok: true,
         next: at + 1 + 1 + 1,
         left,
-        ty: subst_names::names::resolve_qualified(image, l, namespace, x),
+        ty: subst_names::names::resolve_qualified(l, namespace, x),
     }
 }
 
 // A generic name that is no alias: its argument at `at` is passed over, and nothing of it counts.
-pub fn poison(image: &[u8], l: Layout, at: usize, left: u32) -> Resolved
-    requires { Inside image.now l }
-    ensures { Keeps left result (Poisons image.now l at left result) }
+pub fn poison(l: &Layout, at: usize, left: u32) -> Resolved
+    requires { Inside l.now }
+    ensures { Keeps left result (Poisons l.now at left result) }
 {
     let pool = l.pool;
     Resolved {
         ok: true, // whatever the argument would come to
-        next: skip_types::skip_type(image, pool, at),
+        next: skip_types::skip_type(pool, at),
         left,
         ty: HeldType::named(TypeId::POISON),
     }

@@ -64,9 +64,9 @@ alias_at s x d e few = go (lookup s x) e
     go none e = sym (ap (λ (o : Option TypeDef). then o one_parameter) (past s.definitions d (omega arith)))
     go (some n) e = ap (λ (k : ℕ). then (get_elem? s.definitions k) one_parameter) (sym e)
 
-module _ {image : List ℕ} {l : Layout} {s : CompiledSchema} (o : Open image l s) (d : ℕ) (r : DefinitionRow) (row : IsDefinitionRow image l d r) where
+module _ {l : Layout} {s : CompiledSchema} (o : Open l s) (d : ℕ) (r : DefinitionRow) (row : IsDefinitionRow l d r) where
   abbrev Alike : TypeDef → Type 0
-  Alike t = DefinitionStands l.names.rows l.strings.rows (pool_words image l) r.kind r.start t
+  Alike t = DefinitionStands l.names.rows l.strings.rows (pool_words l) r.kind r.start t
 
   alike : d < l.definitions.rows → (t : TypeDef) × (get_elem? s.definitions d ≡ some t) × Alike t
   alike h =
@@ -75,7 +75,7 @@ module _ {image : List ℕ} {l : Layout} {s : CompiledSchema} (o : Open image l 
       (e.0, e.1, k)
 
   abbrev Generic : TypeDef → Type 0
-  Generic t = (a : GenericAliasDef) × (t ≡ TypeDef.generic_alias a) × Stored (generic_alias l.names.rows) (pool_words image l) r.start a
+  Generic t = (a : GenericAliasDef) × (t ≡ TypeDef.generic_alias a) × Stored (generic_alias l.names.rows) (pool_words l) r.start a
 
   generic : (t : TypeDef) → Alike t → is_generic r.kind ≡ true → Generic t
   generic TypeDef.other k g = absurd (true_false (sym g ∙ ap is_generic k))
@@ -94,11 +94,11 @@ module _ {image : List ℕ} {l : Layout} {s : CompiledSchema} (o : Open image l 
 
   -- the row is a generic alias
   pub generic_here : is_generic r.kind ≡ true
-      → (a : GenericAliasDef) × (then (get_elem? s.definitions d) one_parameter ≡ alias_of a) × Stored (generic_alias l.names.rows) (pool_words image l) r.start a
+      → (a : GenericAliasDef) × (then (get_elem? s.definitions d) one_parameter ≡ alias_of a) × Stored (generic_alias l.names.rows) (pool_words l) r.start a
   unfolding then
   generic_here g = go (dec_le l.definitions.rows d)
     where
-      go : Dec (l.definitions.rows ≤ d) → (a : GenericAliasDef) × (then (get_elem? s.definitions d) one_parameter ≡ alias_of a) × Stored (generic_alias l.names.rows) (pool_words image l) r.start a
+      go : Dec (l.definitions.rows ≤ d) → (a : GenericAliasDef) × (then (get_elem? s.definitions d) one_parameter ≡ alias_of a) × Stored (generic_alias l.names.rows) (pool_words l) r.start a
       go (yes h) = absurd (true_false (sym g ∙ ap is_generic (row.past h)))
       go (no h) =
           let t = alike (omega arith) in

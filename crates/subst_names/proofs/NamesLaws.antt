@@ -52,19 +52,19 @@ aliased : (n : Name) → n.definition ≡ NONE → definition_of n ≡ then n.al
 unfolding definition_of
 aliased n e = ap (λ (b : Bool). elim b as (λ _. Option ℕ) [ true ↦ then n.alias number | false ↦ some n.definition ]) (eq-eqb n.definition NONE e)
 
-module _ {image : List ℕ} {l : Layout} {s : CompiledSchema} (o : Open image l s) (x : ℕ) (inside : x < l.names.rows) where
+module _ {l : Layout} {s : CompiledSchema} (o : Open l s) (x : ℕ) (inside : x < l.names.rows) where
   -- the name that the row says
-  pub row : (n : Name) × (get_elem? s.names x ≡ some n) × NameStands image l x n
+  pub row : (n : Name) × (get_elem? s.names x ≡ some n) × NameStands l x n
   row = let e = there s.names x (omega (arith, o.names)) in (e.0, e.1, o.name x e.0 e.1)
 
   found : lookup s x ≡ definition_of row.0
   unfolding lookup then
   found = ap (λ (o : Option Name). then o definition_of) row.1
 
-  pub defined : (row_word image l.names x 2 ≡ NONE → ⊥) → lookup s x ≡ some (row_word image l.names x 2)
-  defined h = found ∙ own row.0 (row_word image l.names x 2) row.2.definition h
+  pub defined : (row_word l.names x 2 ≡ NONE → ⊥) → lookup s x ≡ some (row_word l.names x 2)
+  defined h = found ∙ own row.0 (row_word l.names x 2) row.2.definition h
 
-  pub named_alias : row_word image l.names x 2 ≡ NONE → lookup s x ≡ then row.0.alias number
+  pub named_alias : row_word l.names x 2 ≡ NONE → lookup s x ≡ then row.0.alias number
   named_alias h = found ∙ aliased row.0 (row.2.definition ∙ h)
 
   pub primitive_alias : lookup_primitive_alias s x ≡ then row.0.alias primitive
@@ -72,7 +72,7 @@ module _ {image : List ℕ} {l : Layout} {s : CompiledSchema} (o : Open image l 
   primitive_alias = ap (λ (o : Option Name). then o (λ n. then n.alias primitive)) row.1
 
 -- no name has the number NONE
-pub no_name : {image : List ℕ} {l : Layout} {s : CompiledSchema} → Open image l s → lookup s NONE ≡ none
+pub no_name : {l : Layout} {s : CompiledSchema} → Open l s → lookup s NONE ≡ none
 unfolding lookup then
 no_name {s = s} o = ap (λ (o : Option Name). then o definition_of) (past s.names NONE (omega (arith, o.names, o.inside.few_names)))
 
@@ -111,40 +111,40 @@ module _ (s : CompiledSchema) where
     by_lookup d e f g = choose e f ∙ named_is (lookup s x) ∙ ap ResolvedType.named (sym g)
 
 -- the texts of the rows are the names'
-module _ {image : List ℕ} {l : Layout} (cut : Cut image l) (i : ℕ) (inside : i < l.names.rows) where
-  word_is : (k : ℕ) → k < 4 → row_word image l.names i k ≡ word_at image (l.names.words.start + (16 * i + 4 * k))
+module _ {l : Layout} (cut : Cut l) (i : ℕ) (inside : i < l.names.rows) where
+  word_is : (k : ℕ) → k < 4 → row_word l.names i k ≡ word_at image (l.names.words.start + (16 * i + 4 * k))
   unfolding row_word
   word_is k h =
       let w : l.names.width ≡ 4 = cut.names in
       let f = cut.inside.names in
       let size : l.names.words.len ≡ 4 * l.names.rows = f.whole ∙ ap (λ (n : ℕ). n * l.names.rows) w in
-      let g : ℕ = get_or (section_words image l.names.words) (l.names.width * i + k) 0 in
+      let g : ℕ = get_or (section_words l.names.words.now) (l.names.width * i + k) 0 in
       ap₂ (λ (a b : Bool). cond (a && b) g 0) (lt-ltb i l.names.rows inside) (lt-ltb k l.names.width (omega arith))
-      ∙ ap (λ (n : ℕ). get_or (section_words image l.names.words) (n * i + k) 0) w
+      ∙ ap (λ (n : ℕ). get_or (section_words l.names.words.now) (n * i + k) 0) w
       ∙ sym (section_at f.lies (4 * i + k) (omega arith))
       ∙ ap (word_at image) (omega arith)
 
-  pub text_is : take (row_word image l.names i 1) (drop (row_word image l.names i 0) image) ≡ row_text image l.names.words.start i
+  pub text_is : take (row_word l.names i 1) (drop (row_word l.names i 0) image) ≡ row_text l.names.words.start i
   unfolding row_text
   text_is =
       ap₂ (λ (a b : ℕ). take a (drop b image))
       (word_is 1 (omega arith) ∙ ap (word_at image) (omega arith))
       (word_is 0 (omega arith) ∙ ap (word_at image) (omega arith))
 
-pub in_rows : {image : List ℕ} {l : Layout} {s : CompiledSchema} → Cut image l → Open image l s → InRows image l.names.words.start s.names
+pub in_rows : {l : Layout} {s : CompiledSchema} → Cut l → Open l s → InRows l.names.words.start s.names
 in_rows {image} {l} {s} cut o i n e = let h : i < l.names.rows = omega (arith, some_inside s.names i n e, o.names) in (o.name i n e).text ∙ text_is cut i h
 
 -- a qualified name's definition is that of the row with its text
-pub qualified_at : {image : List ℕ} {l : Layout} {s : CompiledSchema} → Cut image l → Open image l s → (q x : ℕ) → q < l.names.rows → x < l.names.rows → (row : ℕ)
-    → row ≡ find_row image l.names.words.start l.names.rows (qualified_text image l.names.words.start q x) → lookup_qualified s q x ≡ lookup s row
+pub qualified_at : {l : Layout} {s : CompiledSchema} → Cut l → Open l s → (q x : ℕ) → q < l.names.rows → x < l.names.rows → (row : ℕ)
+    → row ≡ find_row l.names.words.start l.names.rows (qualified_text l.names.words.start q x) → lookup_qualified s q x ≡ lookup s row
 qualified_at {image} {l} {s} cut o q x i j row e =
     let few : length s.names ≤ NONE = omega (arith, o.names, o.inside.few_names) in
-    qualified_rule image l.names.words.start s (in_rows cut o) few q x (omega (arith, o.names)) (omega (arith, o.names))
-    ∙ ap (λ (n : ℕ). lookup s (find_row image l.names.words.start n (qualified_text image l.names.words.start q x))) o.names
+    qualified_rule l.names.words.start s (in_rows cut o) few q x (omega (arith, o.names)) (omega (arith, o.names))
+    ∙ ap (λ (n : ℕ). lookup s (find_row l.names.words.start n (qualified_text l.names.words.start q x))) o.names
     ∙ ap (lookup s) (sym e)
 
 -- and its type, by that row
-pub qualified_none : {image : List ℕ} {l : Layout} {s : CompiledSchema} → Open image l s → (q x row : ℕ) → lookup_qualified s q x ≡ lookup s row → row ≡ NONE
+pub qualified_none : {l : Layout} {s : CompiledSchema} → Open l s → (q x row : ℕ) → lookup_qualified s q x ≡ lookup s row → row ≡ NONE
     → named_or_poison (lookup_qualified s q x) ≡ POISON
 unfolding or
 qualified_none {s = s} o q x row e z = named_is (lookup_qualified s q x) ∙ ap (λ (n : Option ℕ). ResolvedType.named (or n NONE)) (e ∙ ap (lookup s) z ∙ no_name o)

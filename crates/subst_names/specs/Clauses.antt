@@ -13,19 +13,19 @@ use Rattle.subst_names.specs.Aliases.{IsAlias, alias_of}
 use Rattle.subst_names.specs.declared.generic.Alias.{Alias}
 
 -- the alias that stands there, if it has one parameter
-abbrev pub TellsOneParameter : List ℕ → Layout → ℕ → Alias → Type 0
-TellsOneParameter image l start r =
-    (a : GenericAliasDef) → Stored (generic_alias l.names.rows) (pool_words image l) start a
-    → IsAlias l.names.rows (pool_words image l) r (alias_of a)
+abbrev pub TellsOneParameter : Layout → ℕ → Alias → Type 0
+TellsOneParameter l start r =
+    (a : GenericAliasDef) → Stored (generic_alias l.names.rows) (pool_words l) start a
+    → IsAlias l.names.rows (pool_words l) r (alias_of a)
 
 -- the type that the name stands for, under the parameters in view
-abbrev pub ResolvesName : List ℕ → Layout → List ℕ → NameId → HeldType → Type 0
-ResolvesName image l params x r =
-    (s : CompiledSchema) → Open image l s → (ps : List (Param ResolvedType)) → Views l.names.rows params 0 ps → x.0 < l.names.rows
+abbrev pub ResolvesName : Layout → List ℕ → NameId → HeldType → Type 0
+ResolvesName l params x r =
+    (s : CompiledSchema) → Open l s → (ps : List (Param ResolvedType)) → Views l.names.rows params 0 ps → x.0 < l.names.rows
     → Holds l.names.rows r (resolve_name s ps x.0)
 
 -- the type that the qualified name stands for
-abbrev pub ResolvesQualified : List ℕ → Layout → NameId → NameId → HeldType → Type 0
-ResolvesQualified image l namespace x r =
-    (s : CompiledSchema) → Open image l s → namespace.0 < l.names.rows → x.0 < l.names.rows
+abbrev pub ResolvesQualified : Layout → NameId → NameId → HeldType → Type 0
+ResolvesQualified l namespace x r =
+    (s : CompiledSchema) → Open l s → namespace.0 < l.names.rows → x.0 < l.names.rows
     → Holds l.names.rows r (named_or_poison (lookup_qualified s namespace.0 x.0))

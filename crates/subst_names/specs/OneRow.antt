@@ -9,5 +9,5 @@ use Rattle.image_layout.specs.Open.{Open}
 -- whichever row of a readable image has a text, that row is found: so no other has it
 abbrev pub OneRow : Type 0
 OneRow =
-    (image : List ℕ) (l : Layout) (s : CompiledSchema) → Cut image l → Open image l s
-    → (t : List ℕ) (i : ℕ) → i < l.names.rows → row_text image l.names.words.start i ≡ t → find_row image l.names.words.start l.names.rows t ≡ i
+    (l : Layout) (s : CompiledSchema) → Cut l → Open l s
+    → (t : List ℕ) (i : ℕ) → i < l.names.rows → row_text l.names.words.start i ≡ t → find_row l.names.words.start l.names.rows t ≡ i

@@ -43,32 +43,32 @@ fn is_generic(k: DefinitionKind) -> bool
 }
 
 // The alias that stands in the pool at `start`, if it has one parameter.
-fn one_parameter(image: &[u8], l: Layout, start: u32) -> Alias
-    requires { Inside image.now l }
-    ensures { TellsOneParameter image.now l start result }
+fn one_parameter(l: &Layout, start: u32) -> Alias
+    requires { Inside l.now }
+    ensures { TellsOneParameter l.now start result }
 {
     let pool = l.pool;
     let at = start as usize;
-    if image_words::section_word(image, pool, at) != 1 {
+    if image_words::section_word(pool, at) != 1 {
         return none();
     }
     Alias {
         some: true,
-        param: NameId(image_words::section_word(image, pool, at + 1)),
+        param: NameId(image_words::section_word(pool, at + 1)),
         target: at + 2,
     }
 }
 
 // The one-parameter generic alias that is a name's definition, else its Named alias.
-pub fn lookup_alias(image: &[u8], l: Layout, x: NameId) -> Alias
-    requires { Inside image.now l }
-    ensures { (s : CompiledSchema) → Open image.now l s → x.0 < l.names.rows → IsAlias l.names.rows (pool_words image.now l) result (lookup_alias s x.0) }
+pub fn lookup_alias(l: &Layout, x: NameId) -> Alias
+    requires { Inside l.now }
+    ensures { (s : CompiledSchema) → Open l.now s → x.0 < l.now.names.rows → IsAlias l.now.names.rows (pool_words l.now) result (lookup_alias s x.0) }
 {
-    let d = crate::names::lookup(image, l, x);
-    let row = image_layout::definition_row(image, l, d);
+    let d = crate::names::lookup(l, x);
+    let row = image_layout::definition_row(l, d);
     let k = row.kind;
     if is_generic(k) {
-        return one_parameter(image, l, row.start);
+        return one_parameter(l, row.start);
     }
     none()
 }

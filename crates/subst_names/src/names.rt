@@ -16,46 +16,46 @@ use rules::tags::TypeTag;
 use type_words::{HeldType, MaybeType};
 
 // The number of a Named alias, else NONE.
-fn alias_number(image: &[u8], l: Layout, start: u32) -> TypeId
-    requires { Inside image.now l }
-    ensures { (o : Option ResolvedType) → AliasStands l.names.rows (pool_words image.now l) start o → result.0 ≡ or (then o number) NONE }
+fn alias_number(l: &Layout, start: u32) -> TypeId
+    requires { Inside l.now }
+    ensures { (o : Option ResolvedType) → AliasStands l.now.names.rows (pool_words l.now) start o → result.0 ≡ or (then o number) NONE }
 {
     if start == NOWHERE {
         return TypeId::NONE;
     }
     let pool = l.pool;
     let at = start as usize;
-    if image_words::section_word(image, pool, at) != TypeTag::NAMED {
+    if image_words::section_word(pool, at) != TypeTag::NAMED {
         return TypeId::NONE;
     }
-    TypeId(image_words::section_word(image, pool, at + 1))
+    TypeId(image_words::section_word(pool, at + 1))
 }
 
 // A name's definition, else the number of its Named alias, else NONE.
-pub fn lookup(image: &[u8], l: Layout, x: NameId) -> TypeId
-    requires { Inside image.now l }
-    ensures { (s : CompiledSchema) → Open image.now l s → x.0 < l.names.rows → result.0 ≡ or (lookup s x.0) NONE }
+pub fn lookup(l: &Layout, x: NameId) -> TypeId
+    requires { Inside l.now }
+    ensures { (s : CompiledSchema) → Open l.now s → x.0 < l.now.names.rows → result.0 ≡ or (lookup s x.0) NONE }
 {
-    let row = image_layout::name_row(image, l, x);
+    let row = image_layout::name_row(l, x);
     let d = row.definition;
     if d.0 != TypeId::NONE.0 {
         return d;
     }
-    alias_number(image, l, row.alias)
+    alias_number(l, row.alias)
 }
 
 // A name's alias where it is a primitive.
-pub fn lookup_primitive_alias(image: &[u8], l: Layout, x: NameId) -> MaybeType
-    requires { Inside image.now l }
-    ensures { (s : CompiledSchema) → Open image.now l s → x.0 < l.names.rows → MaybeHolds l.names.rows result (lookup_primitive_alias s x.0) }
+pub fn lookup_primitive_alias(l: &Layout, x: NameId) -> MaybeType
+    requires { Inside l.now }
+    ensures { (s : CompiledSchema) → Open l.now s → x.0 < l.now.names.rows → MaybeHolds l.now.names.rows result (lookup_primitive_alias s x.0) }
 {
-    let row = image_layout::name_row(image, l, x);
+    let row = image_layout::name_row(l, x);
     let start = row.alias;
     if start == NOWHERE {
         return MaybeType::none();
     }
     let pool = l.pool;
-    let code = image_words::section_word(image, pool, start as usize);
+    let code = image_words::section_word(pool, start as usize);
     if code <= PrimitiveType::VOID {
         return MaybeType::some(HeldType::plain(code));
     }
@@ -63,16 +63,16 @@ pub fn lookup_primitive_alias(image: &[u8], l: Layout, x: NameId) -> MaybeType
 }
 
 // The first equal type parameter's argument; else an alias to a primitive; else the definition or the Named alias; else poison.
-pub fn resolve_name(image: &[u8], l: Layout, params: &[u32], x: NameId) -> HeldType
-    requires { Inside image.now l }
-    ensures { ResolvesName image.now l params.now x result }
+pub fn resolve_name(l: &Layout, params: &[u32], x: NameId) -> HeldType
+    requires { Inside l.now }
+    ensures { ResolvesName l.now params.now x result }
 {
     let a = subst_params::find_param(params, x);
     if a.some {
         return a.ty;
     }
-    let named = HeldType::named(lookup(image, l, x));
-    let p = lookup_primitive_alias(image, l, x);
+    let named = HeldType::named(lookup(l, x));
+    let p = lookup_primitive_alias(l, x);
     let primitive = p.ty;
     if p.some {
         return primitive;
@@ -81,9 +81,9 @@ pub fn resolve_name(image: &[u8], l: Layout, params: &[u32], x: NameId) -> HeldT
 }
 
 // The definition or the Named alias of the name with the text namespace, ".", name; else poison.
-pub fn resolve_qualified(image: &[u8], l: Layout, namespace: NameId, x: NameId) -> HeldType
-    requires { Cut image.now l }
-    ensures { ResolvesQualified image.now l namespace x result }
+pub fn resolve_qualified(l: &Layout, namespace: NameId, x: NameId) -> HeldType
+    requires { Cut l.now }
+    ensures { ResolvesQualified l.now namespace x result }
 {
     let names = l.names;
     let words = names.words;
@@ -97,5 +97,5 @@ pub fn resolve_qualified(image: &[u8], l: Layout, namespace: NameId, x: NameId) 
     if row.0 == NameId::NONE.0 {
         return HeldType::named(TypeId::POISON);
     }
-    HeldType::named(lookup(image, l, row))
+    HeldType::named(lookup(l, row))
 }

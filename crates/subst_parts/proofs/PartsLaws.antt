@@ -24,15 +24,15 @@ use Rattle.subst_parts.specs.Parts.{kind_at, name_at, Told, Read, WholeAs, Parts
 use Rattle.subst_parts.proofs.Nodes.{of_generic}
 use Rattle.subst_parts.proofs.Poison.{is_poison, no_alias}
 
-module _ (image : List ℕ) (l : Layout) (at left : ℕ) where
-  pub whole_at : (r : Node) → (r.parts ≡ Parts.Whole) × (r.first ≡ 0) × (r.alias.some ≡ false) → (Read image l at left → WholeAs image l at left (kind_at image l at)) → NodeAt image l at left r
-  whole_at r h w = subst (λ (p : Parts). PartsAt image l at left p r.first r.alias) (sym h.0) (h.1, h.2, w)
+module _ (l : Layout) (at left : ℕ) where
+  pub whole_at : (r : Node) → (r.parts ≡ Parts.Whole) × (r.first ≡ 0) × (r.alias.some ≡ false) → (Read l at left → WholeAs l at left (kind_at l at)) → NodeAt l at left r
+  whole_at r h w = subst (λ (p : Parts). PartsAt l at left p r.first r.alias) (sym h.0) (h.1, h.2, w)
 
-  pub whole_as : {k : TypeKind} → kind_at image l at ≡ k → WholeAs image l at left k → Read image l at left → WholeAs image l at left (kind_at image l at)
-  whole_as e w _ = subst (WholeAs image l at left) (sym e) w
+  pub whole_as : {k : TypeKind} → kind_at l at ≡ k → WholeAs l at left k → Read l at left → WholeAs l at left (kind_at l at)
+  whole_as e w _ = subst (WholeAs l at left) (sym e) w
 
   -- a kind that has no part
-  pub other_kind : (k : TypeKind) → (k ≡ TypeKind.Generic → ⊥) → (k ≡ TypeKind.One → ⊥) → (k ≡ TypeKind.Fixed → ⊥) → (k ≡ TypeKind.Two → ⊥) → WholeAs image l at left k
+  pub other_kind : (k : TypeKind) → (k ≡ TypeKind.Generic → ⊥) → (k ≡ TypeKind.One → ⊥) → (k ≡ TypeKind.Fixed → ⊥) → (k ≡ TypeKind.Two → ⊥) → WholeAs l at left k
   other_kind TypeKind.Plain g o f t = tt
   other_kind TypeKind.Sub g o f t = tt
   other_kind TypeKind.Bits g o f t = tt
@@ -45,22 +45,22 @@ module _ (image : List ℕ) (l : Layout) (at left : ℕ) where
   other_kind TypeKind.Unknown g o f t = tt
 
   -- what is looked up of a word that is the name
-  module _ (r : Alias) (x : ℕ) (is : x ≡ name_at image l at) (h : (s : CompiledSchema) → Open image l s → x < l.names.rows → IsAlias l.names.rows (pool_words image l) r (lookup_alias s x)) where
-    pub told : Told image l at (λ s. IsAlias l.names.rows (pool_words image l) r (lookup_alias s (name_at image l at)))
-    told = subst (λ (y : ℕ). (s : CompiledSchema) → Open image l s → y < l.names.rows → IsAlias l.names.rows (pool_words image l) r (lookup_alias s y)) is h
+  module _ (r : Alias) (x : ℕ) (is : x ≡ name_at l at) (h : (s : CompiledSchema) → Open l s → x < l.names.rows → IsAlias l.names.rows (pool_words l) r (lookup_alias s x)) where
+    pub told : Told l at (λ s. IsAlias l.names.rows (pool_words l) r (lookup_alias s (name_at l at)))
+    told = subst (λ (y : ℕ). (s : CompiledSchema) → Open l s → y < l.names.rows → IsAlias l.names.rows (pool_words l) r (lookup_alias s y)) is h
 
-    pub told_none : r.some ≡ false → WholeAs image l at left TypeKind.Generic
-    told_none e s o b = no_alias l.names.rows (pool_words image l) r (lookup_alias s (name_at image l at)) (told s o b) e
+    pub told_none : r.some ≡ false → WholeAs l at left TypeKind.Generic
+    told_none e s o b = no_alias l.names.rows (pool_words l) r (lookup_alias s (name_at l at)) (told s o b) e
 
   -- what is so of a whole node that is read, by its kind
-  pub as_kind : {k : TypeKind} → (left ≡ 0 → ⊥) → at < l.pool.len → kind_at image l at ≡ k → (Read image l at left → WholeAs image l at left (kind_at image l at)) → WholeAs image l at left k
-  as_kind z b is w = subst (WholeAs image l at left) is (w (omega arith, b))
+  pub as_kind : {k : TypeKind} → (left ≡ 0 → ⊥) → at < length (section_words l.pool) → kind_at l at ≡ k → (Read l at left → WholeAs l at left (kind_at l at)) → WholeAs l at left k
+  as_kind z b is w = subst (WholeAs l at left) is (w (omega arith, b))
 
-  pub of_poison : (params : List ℕ) (r : Resolved) → (left ≡ 0 → ⊥) → at < l.pool.len → kind_at image l at ≡ TypeKind.Generic → Poisons image l (at + 1 + 1) (left - 1) r → ResolvesWhole image l at left params r
+  pub of_poison : (params : List ℕ) (r : Resolved) → (left ≡ 0 → ⊥) → at < length (section_words l.pool) → kind_at l at ≡ TypeKind.Generic → Poisons l (at + 1 + 1) (left - 1) r → ResolvesWhole l at left params r
   of_poison params r z b is h w =
-      of_generic image l at left params r z is (λ s o f le ps v x y n e.
+      of_generic l at left params r z is (λ s o f le ps v x y n e.
       let p = generic_stands x y e in
-      let none_is : lookup_alias s (name_at image l at) ≡ none = as_kind z b is w s o (omega (arith, p.name, p.below)) in
+      let none_is : lookup_alias s (name_at l at) ≡ none = as_kind z b is w s o (omega (arith, p.name, p.below)) in
       says_as (is_poison s (plain_depth s f) ps x y (ap (lookup_alias s) (sym p.name) ∙ none_is)) (h y n p.part))
 
 -- where an expression is begun behind words, by the node's parts

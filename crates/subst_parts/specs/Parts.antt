@@ -16,22 +16,22 @@ use Rattle.subst_parts.specs.declared.Node.{Node}
 use Rattle.subst_parts.specs.declared.Behind.{Behind}
 use Rattle.subst_parts.specs.declared.Start.{Start}
 
-module _ (image : List ℕ) (l : Layout) (at : ℕ) where
+module _ (l : Layout) (at : ℕ) where
   -- the kind of the code that stands there, and the name behind it
   abbrev pub kind_at : TypeKind
-  kind_at = type_kind (get_or (pool_words image l) at 0)
+  kind_at = type_kind (get_or (pool_words l) at 0)
 
   abbrev pub name_at : ℕ
-  name_at = get_or (pool_words image l) (at + 1) 0
+  name_at = get_or (pool_words l) (at + 1) 0
 
   -- what the schema says of this name, for each schema that the image holds
   abbrev pub Told : (CompiledSchema → Type 0) → Type 0
-  Told P = (s : CompiledSchema) → Open image l s → name_at < l.names.rows → P s
+  Told P = (s : CompiledSchema) → Open l s → name_at < l.names.rows → P s
 
   module _ (left : ℕ) where
     -- there is a node and a visit for it
     abbrev pub Read : Type 0
-    Read = (0 < left) × (at < l.pool.len)
+    Read = (0 < left) × (at < length (section_words l.pool))
 
     -- a node of this kind has no part
     abbrev pub WholeAs : TypeKind → Type 0
@@ -52,14 +52,14 @@ module _ (image : List ℕ) (l : Layout) (at : ℕ) where
     PartsAt Parts.Fixed first alias = (first ≡ at + 1 + 1 + 1) × (alias.some ≡ false) × Read × (kind_at ≡ TypeKind.Fixed)
     PartsAt Parts.Two first alias = (first ≡ at + 1) × (alias.some ≡ false) × Read × (kind_at ≡ TypeKind.Two)
     PartsAt Parts.Alias first alias =
-        (first ≡ at + 1 + 1) × (alias.some ≡ true) × Read × (kind_at ≡ TypeKind.Generic) × Told (λ s. IsAlias l.names.rows (pool_words image l) alias (lookup_alias s name_at))
+        (first ≡ at + 1 + 1) × (alias.some ≡ true) × Read × (kind_at ≡ TypeKind.Generic) × Told (λ s. IsAlias l.names.rows (pool_words l) alias (lookup_alias s name_at))
 
     abbrev pub NodeAt : Node → Type 0
     NodeAt r = PartsAt r.parts r.first r.alias
 
     -- the answer of a node that is whole
     abbrev pub ResolvesWhole : List ℕ → Resolved → Type 0
-    ResolvesWhole params r = (Read → WholeAs kind_at) → Substitutes image l at left params r
+    ResolvesWhole params r = (Read → WholeAs kind_at) → Substitutes l at left params r
 
 -- the expression as it is, behind n words
 abbrev pub AsItIs : ℕ → ℕ → ℕ → Behind → Type 0

@@ -52,18 +52,18 @@ fn whole() -> Node
     }
 }
 
-pub fn node_at(image: &[u8], l: Layout, at: usize, left: u32) -> Node
-    requires { Cut image.now l }
-    ensures { NodeAt image.now l at left result }
+pub fn node_at(l: &Layout, at: usize, left: u32) -> Node
+    requires { Cut l.now }
+    ensures { NodeAt l.now at left result }
 {
     let pool = l.pool;
     if left == 0 {
         return whole();
     }
-    if pool.len <= at {
+    if image_words::count(pool) <= at {
         return whole();
     }
-    let k = codes::type_kind(image_words::section_word(image, pool, at));
+    let k = codes::type_kind(image_words::section_word(pool, at));
     match k {
         TypeKind::One => Node {
             parts: Parts::One,
@@ -81,8 +81,8 @@ pub fn node_at(image: &[u8], l: Layout, at: usize, left: u32) -> Node
             alias: no_alias(),
         },
         TypeKind::Generic => {
-            let x = NameId(image_words::section_word(image, pool, at + 1));
-            let alias = lookup_alias(image, l, x);
+            let x = NameId(image_words::section_word(pool, at + 1));
+            let alias = lookup_alias(l, x);
             if alias.some {
                 return Node {
                     parts: Parts::Alias,
@@ -163,25 +163,25 @@ pub fn start_of(node: Node, target: usize, left: u32) -> Start
 }
 
 // A node that is whole: its type, with one visit. A generic name that is no alias reads no argument.
-pub fn resolve_whole(image: &[u8], l: Layout, at: usize, left: u32, params: &[u32]) -> Resolved
-    requires { Cut image.now l }
-    ensures { Keeps left result (ResolvesWhole image.now l at left params.now result) }
+pub fn resolve_whole(l: &Layout, at: usize, left: u32, params: &[u32]) -> Resolved
+    requires { Cut l.now }
+    ensures { Keeps left result (ResolvesWhole l.now at left params.now result) }
 {
     if left == 0 {
         return failed();
     }
     let pool = l.pool;
-    if pool.len <= at {
+    if image_words::count(pool) <= at {
         return failed();
     }
-    let k = codes::type_kind(image_words::section_word(image, pool, at));
+    let k = codes::type_kind(image_words::section_word(pool, at));
     match k {
-        TypeKind::Plain => subst_leaves::leaf(image, l, at, left - 1),
-        TypeKind::Sub => subst_leaves::leaf(image, l, at, left - 1),
-        TypeKind::Bits => subst_leaves::leaf(image, l, at, left - 1),
-        TypeKind::Named => subst_leaves::named(image, l, at, left - 1, params),
-        TypeKind::Qualified => subst_leaves::qualified(image, l, at, left - 1),
-        TypeKind::Generic => subst_leaves::poison(image, l, at + 1 + 1, left - 1),
+        TypeKind::Plain => subst_leaves::leaf(l, at, left - 1),
+        TypeKind::Sub => subst_leaves::leaf(l, at, left - 1),
+        TypeKind::Bits => subst_leaves::leaf(l, at, left - 1),
+        TypeKind::Named => subst_leaves::named(l, at, left - 1, params),
+        TypeKind::Qualified => subst_leaves::qualified(l, at, left - 1),
+        TypeKind::Generic => subst_leaves::poison(l, at + 1 + 1, left - 1),
         TypeKind::One => failed(),
         TypeKind::Fixed => failed(),
         TypeKind::Two => failed(),

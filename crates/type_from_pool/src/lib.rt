@@ -4,7 +4,7 @@
 ghost use Rattle.std.specs.Prelude.{ℕ};
 ghost use Rattle.rules.specs.Syntax.{ResolvedType, run};
 ghost use Rattle.rules.specs.Good.{Stored};
-ghost use Rattle.image_words.specs.Verdict.{section_words, Lies};
+ghost use Rattle.image_words.specs.Verdict.{section_words};
 ghost use Rattle.image_words.specs.Stands.{Stands};
 ghost use Rattle.image_layout.specs.Rows.{Inside};
 ghost use Rattle.image_layout.specs.Open.{pool_words};
@@ -12,7 +12,6 @@ ghost use Rattle.type_words.specs.Holds.{Holds};
 ghost use Rattle.type_from_pool.specs.Held.{Types};
 
 use image_layout::Layout;
-use image_words::Section;
 use rules::bounds::TYPE_WORDS;
 use type_poison::{Seen, pass};
 use type_words::HeldType;
@@ -25,9 +24,8 @@ pub struct Held {
 }
 
 // The words from `at` up to `end`, at most 64. Each word is handed to `pass`, which tells nodes from other words.
-fn copy(image: &[u8], pool: Section, at: usize, end: usize) -> HeldType
-    requires { Lies image.now pool }
-    ensures { (names : ℕ) (t : ResolvedType) → Stands (section_words image.now pool) (run t) at end → Stored names t → Holds names result t }
+fn copy(pool: &[u8], at: usize, end: usize) -> HeldType
+    ensures { (names : ℕ) (t : ResolvedType) → Stands (section_words pool.now) (run t) at end → Stored names t → Holds names result t }
 {
     let n = image_words::less(end, at);
     if TYPE_WORDS < n {
@@ -41,7 +39,7 @@ fn copy(image: &[u8], pool: Section, at: usize, end: usize) -> HeldType
     let mut before = 0;
     let mut i = 0;
     while i < n {
-        let word = image_words::section_word(image, pool, at + i);
+        let word = image_words::section_word(pool, at + i);
         words[i] = word;
         seen = pass(seen, i, before, word);
         before = word;
@@ -54,14 +52,14 @@ fn copy(image: &[u8], pool: Section, at: usize, end: usize) -> HeldType
     }
 }
 
-pub fn hold_type(image: &[u8], l: Layout, at: usize) -> Held
-    requires { Inside image.now l }
-    ensures { Types l.names.rows (pool_words image.now l) at result }
+pub fn hold_type(l: &Layout, at: usize) -> Held
+    requires { Inside l.now }
+    ensures { Types l.now.names.rows (pool_words l.now) at result }
 {
     let pool = l.pool;
-    let n = skip_types::skip_type(image, pool, at);
+    let n = skip_types::skip_type(pool, at);
     Held {
-        ty: copy(image, pool, at, n),
+        ty: copy(pool, at, n),
         next: n,
     }
 }

@@ -33,19 +33,19 @@ unfoldable pub kind_of : PortableExpr → PortableExprKind
 kind_of (typed t k) = k
 
 -- over the image, its layout, the table, the context, the place, the type, and the output before and after
-module _ (image : List ℕ) (l : Layout) (names words lens : List ℕ) (x : Context) (at nest : ℕ) (ty : HeldType) (limit to : ℕ) (xs : List ℕ) (r : ℕ) (ys : List ℕ) where
+module _ (l : Layout) (names words lens : List ℕ) (x : Context) (at nest : ℕ) (ty : HeldType) (limit to : ℕ) (xs : List ℕ) (r : ℕ) (ys : List ℕ) where
   -- the words of the value that the rules make of e, if ty is its type
   abbrev pub WritesOf : (PortableExpr → List ℕ) → FunctionContext → Expr → Type 0
   WritesOf of c e = (o : Option ResolvedType) (context : ℕ) (v : PortableExpr) → infer_expr c e o context ≡ ok v → Runs ty (run (type_of v)) → Written limit to (of v) xs r ys
 
   abbrev pub Writes : Type 0
-  Writes = AtContext image l names words lens x (λ c. AtExpr image l nest at (λ e n. WritesOf value_words c e))
+  Writes = AtContext l names words lens x (λ c. AtExpr l nest at (λ e n. WritesOf value_words c e))
 
   -- behind the type, of an operation whose operands nest at most so deep
   abbrev pub WritesBinary : Type 0
-  WritesBinary = AtContext image l names words lens x (λ c. (outer op : ℕ) (d e : Expr) (n : ℕ) → outer - 1 ≡ nest
-      → Stood l.names.rows l.strings.rows (pool_words image l) outer (Expr.binary op d e) at n → WritesOf (λ v. kind_words (kind_of v)) c (Expr.binary op d e))
+  WritesBinary = AtContext l names words lens x (λ c. (outer op : ℕ) (d e : Expr) (n : ℕ) → outer - 1 ≡ nest
+      → Stood l.names.rows l.strings.rows (pool_words l) outer (Expr.binary op d e) at n → WritesOf (λ v. kind_words (kind_of v)) c (Expr.binary op d e))
 
   abbrev pub WritesUnary : Type 0
-  WritesUnary = AtContext image l names words lens x (λ c. (outer op : ℕ) (e : Expr) (n : ℕ) → outer - 1 ≡ nest
-      → Stood l.names.rows l.strings.rows (pool_words image l) outer (Expr.unary op e) at n → WritesOf (λ v. kind_words (kind_of v)) c (Expr.unary op e))
+  WritesUnary = AtContext l names words lens x (λ c. (outer op : ℕ) (e : Expr) (n : ℕ) → outer - 1 ≡ nest
+      → Stood l.names.rows l.strings.rows (pool_words l) outer (Expr.unary op e) at n → WritesOf (λ v. kind_words (kind_of v)) c (Expr.unary op e))

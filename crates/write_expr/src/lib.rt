@@ -35,8 +35,7 @@ fn leaf_size(k: ExprKind) -> usize
 // The value of the accepted expression at `at`, of type `ty`, and where the next word goes.
 #[cycle(write_binary_write_expr_write_unary)]
 pub fn write_expr(
-    image: &[u8],
-    l: Layout,
+    l: &Layout,
     ctx: Context,
     names: &[u32],
     words: &[u32],
@@ -48,18 +47,17 @@ pub fn write_expr(
     limit: usize,
     to: usize,
 ) -> usize
-    requires { Inside image.now l × (limit ≤ length out.old) }
-    ensures { Writes image.now l names.now words.now lens.now ctx at nest ty limit to out.old result out.new }
+    requires { Inside l.now × (limit ≤ length out.old) }
+    ensures { Writes l.now names.now words.now lens.now ctx at nest ty limit to out.old result out.new }
 {
     if nest == 0 {
         return to;
     }
     let next = put_type(out, limit, to, ty);
     let pool = l.pool;
-    let code = image_words::section_word(image, pool, at);
+    let code = image_words::section_word(pool, at);
     if code == ExprTag::BINARY {
         return write_binary(
-            image,
             l,
             ctx,
             names,
@@ -75,7 +73,6 @@ pub fn write_expr(
     }
     if code == ExprTag::UNARY {
         return write_unary(
-            image,
             l,
             ctx,
             names,
@@ -90,7 +87,6 @@ pub fn write_expr(
         );
     }
     put_words(
-        image,
         l,
         at,
         leaf_size(codes::expr_kind(code)),
@@ -103,8 +99,7 @@ pub fn write_expr(
 // Code and operator, then both operands: the right has the left's type.
 #[cycle(write_binary_write_expr_write_unary)]
 fn write_binary(
-    image: &[u8],
-    l: Layout,
+    l: &Layout,
     ctx: Context,
     names: &[u32],
     words: &[u32],
@@ -116,27 +111,26 @@ fn write_binary(
     limit: usize,
     to: usize,
 ) -> usize
-    requires { Inside image.now l × (limit ≤ length out.old) }
-    ensures { WritesBinary image.now l names.now words.now lens.now ctx at nest ty limit to out.old result out.new }
+    requires { Inside l.now × (limit ≤ length out.old) }
+    ensures { WritesBinary l.now names.now words.now lens.now ctx at nest ty limit to out.old result out.new }
 {
-    let op = infer_context::operand(image, l, at);
+    let op = infer_context::operand(l, at);
     let left = infer_context::first_part(l, at);
-    let right = infer_context::skip_expr(image, l, left, nest);
-    let t = operand_type(image, l, ctx, names, words, lens, op, left, right, nest, ty);
-    let a = put_words(image, l, at, 2, out, limit, to);
+    let right = infer_context::skip_expr(l, left, nest);
+    let t = operand_type(l, ctx, names, words, lens, op, left, right, nest, ty);
+    let a = put_words(l, at, 2, out, limit, to);
     let b = write_expr(
-        image, l, ctx, names, words, lens, left, nest, t, out, limit, a,
+        l, ctx, names, words, lens, left, nest, t, out, limit, a,
     );
     write_expr(
-        image, l, ctx, names, words, lens, right, nest, t, out, limit, b,
+        l, ctx, names, words, lens, right, nest, t, out, limit, b,
     )
 }
 
 // Code and operator, then the value, of the same type.
 #[cycle(write_binary_write_expr_write_unary)]
 fn write_unary(
-    image: &[u8],
-    l: Layout,
+    l: &Layout,
     ctx: Context,
     names: &[u32],
     words: &[u32],
@@ -148,12 +142,12 @@ fn write_unary(
     limit: usize,
     to: usize,
 ) -> usize
-    requires { Inside image.now l × (limit ≤ length out.old) }
-    ensures { WritesUnary image.now l names.now words.now lens.now ctx at nest ty limit to out.old result out.new }
+    requires { Inside l.now × (limit ≤ length out.old) }
+    ensures { WritesUnary l.now names.now words.now lens.now ctx at nest ty limit to out.old result out.new }
 {
     let value = infer_context::first_part(l, at);
-    let a = put_words(image, l, at, 2, out, limit, to);
+    let a = put_words(l, at, 2, out, limit, to);
     write_expr(
-        image, l, ctx, names, words, lens, value, nest, ty, out, limit, a,
+        l, ctx, names, words, lens, value, nest, ty, out, limit, a,
     )
 }

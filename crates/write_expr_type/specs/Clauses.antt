@@ -17,19 +17,19 @@ use Rattle.type_words.specs.declared.MaybeType.{MaybeType}
 use Rattle.write_expr_type.specs.Foretold.{left_type}
 
 -- the type that a place has by itself; Void stands where there is none
-abbrev pub ForetellsPlace : List ℕ → Layout → Context → List ℕ → List ℕ → List ℕ → ℕ → HeldType → Type 0
-ForetellsPlace image l ctx names words lens at r =
-    AtContext image l names words lens ctx (λ c. (nest : ℕ) → AtExpr image l nest at (λ e n. Holds l.names.rows r (or (expression_hint c e) VOID)))
+abbrev pub ForetellsPlace : Layout → Context → List ℕ → List ℕ → List ℕ → ℕ → HeldType → Type 0
+ForetellsPlace l ctx names words lens at r =
+    AtContext l names words lens ctx (λ c. (nest : ℕ) → AtExpr l nest at (λ e n. Holds l.names.rows r (or (expression_hint c e) VOID)))
 
 -- the type that a binary has whatever its left's is, if any: a comparison's bool, else the hint
-abbrev pub ForetellsBinary : List ℕ → Layout → Context → List ℕ → List ℕ → List ℕ → ℕ → ℕ → MaybeType → Type 0
-ForetellsBinary image l ctx names words lens at nest r =
-    AtContext image l names words lens ctx (λ c. (outer op : ℕ) (d e : Expr) (n : ℕ) → outer - 1 ≡ nest
-    → Stood l.names.rows l.strings.rows (pool_words image l) outer (Expr.binary op d e) at n
+abbrev pub ForetellsBinary : Layout → Context → List ℕ → List ℕ → List ℕ → ℕ → ℕ → MaybeType → Type 0
+ForetellsBinary l ctx names words lens at nest r =
+    AtContext l names words lens ctx (λ c. (outer op : ℕ) (d e : Expr) (n : ℕ) → outer - 1 ≡ nest
+    → Stood l.names.rows l.strings.rows (pool_words l) outer (Expr.binary op d e) at n
     → MaybeHolds l.names.rows r (cond (is_arithmetic op) (binary_hint c op d e none) (some BOOL)))
 
 -- the type of an accepted operation's left operand
-abbrev pub TellsOperandType : List ℕ → Layout → Context → List ℕ → List ℕ → List ℕ → ℕ → ℕ → ℕ → ℕ → HeldType → HeldType → Type 0
-TellsOperandType image l ctx names words lens op left right nest ty r =
-    AtContext image l names words lens ctx (λ c. AtExpr image l nest left (λ d m. AtExpr image l nest right (λ e n. (t : ResolvedType) → Runs ty (run t)
+abbrev pub TellsOperandType : Layout → Context → List ℕ → List ℕ → List ℕ → ℕ → ℕ → ℕ → ℕ → HeldType → HeldType → Type 0
+TellsOperandType l ctx names words lens op left right nest ty r =
+    AtContext l names words lens ctx (λ c. AtExpr l nest left (λ d m. AtExpr l nest right (λ e n. (t : ResolvedType) → Runs ty (run t)
     → Runs r (run (left_type c op d e t)))))

@@ -9,6 +9,6 @@ use Rattle.infer_context.specs.InContext.{AtContext}
 use Rattle.write_expr_type.specs.Foretold.{foretold}
 
 -- over the image, its layout, the table and the context
-module _ (image : List ℕ) (l : Layout) (names words lens : List ℕ) (x : Context) (at nest : ℕ) (r : HeldType) where
+module _ (l : Layout) (names words lens : List ℕ) (x : Context) (at nest : ℕ) (r : HeldType) where
   abbrev pub Foretells : Type 0
-  Foretells = AtContext image l names words lens x (λ c. AtExpr image l nest at (λ e n. Holds l.names.rows r (foretold c e)))
+  Foretells = AtContext l names words lens x (λ c. AtExpr l nest at (λ e n. Holds l.names.rows r (foretold c e)))

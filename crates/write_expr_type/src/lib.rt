@@ -31,24 +31,22 @@ fn or_void(m: MaybeType) -> HeldType
 
 // The type that a place has by itself.
 fn foretell_place(
-    image: &[u8],
-    l: Layout,
+    l: &Layout,
     ctx: Context,
     names: &[u32],
     words: &[u32],
     lens: &[u32],
     at: usize,
 ) -> HeldType
-    requires { Inside image.now l }
-    ensures { ForetellsPlace image.now l ctx names.now words.now lens.now at result }
+    requires { Inside l.now }
+    ensures { ForetellsPlace l.now ctx names.now words.now lens.now at result }
 {
-    or_void(infer_context::expression_hint(image, l, ctx, names, words, lens, at))
+    or_void(infer_context::expression_hint(l, ctx, names, words, lens, at))
 }
 
 // What a binary's type is before its left's is asked: a comparison's bool, else the hint.
 fn foretell_binary(
-    image: &[u8],
-    l: Layout,
+    l: &Layout,
     ctx: Context,
     names: &[u32],
     words: &[u32],
@@ -56,17 +54,16 @@ fn foretell_binary(
     at: usize,
     nest: u32,
 ) -> MaybeType
-    requires { Inside image.now l }
-    ensures { ForetellsBinary image.now l ctx names.now words.now lens.now at nest result }
+    requires { Inside l.now }
+    ensures { ForetellsBinary l.now ctx names.now words.now lens.now at nest result }
 {
-    let op = infer_context::operand(image, l, at);
+    let op = infer_context::operand(l, at);
     if 4 <= op {
         return MaybeType::some(HeldType::plain(PrimitiveType::BOOL));
     }
     let left = infer_context::first_part(l, at);
-    let right = infer_context::skip_expr(image, l, left, nest);
+    let right = infer_context::skip_expr(l, left, nest);
     infer_context::binary_hint(
-        image,
         l,
         ctx,
         names,
@@ -81,8 +78,7 @@ fn foretell_binary(
 
 // The type of the expression at `at`, which is its left's, or its value's, where it has none by itself.
 pub fn foretell(
-    image: &[u8],
-    l: Layout,
+    l: &Layout,
     ctx: Context,
     names: &[u32],
     words: &[u32],
@@ -90,30 +86,30 @@ pub fn foretell(
     at: usize,
     nest: u32,
 ) -> HeldType
-    requires { Inside image.now l }
-    ensures { Foretells image.now l names.now words.now lens.now ctx at nest result }
+    requires { Inside l.now }
+    ensures { Foretells l.now names.now words.now lens.now ctx at nest result }
 {
     let pool = l.pool;
     let mut place = at;
     let mut inner = nest;
     while 0 < inner {
         inner -= 1;
-        let k = infer_context::kind_at(image, l, place);
+        let k = infer_context::kind_at(l, place);
         match k {
             ExprKind::Literal => {
-                return infer_leaves::literal_own(image_words::section_word(image, pool, place));
+                return infer_leaves::literal_own(image_words::section_word(pool, place));
             }
             ExprKind::Flag => return HeldType::plain(PrimitiveType::BOOL),
             ExprKind::Text => return HeldType::plain(TypeTag::STRING),
-            ExprKind::Local => return foretell_place(image, l, ctx, names, words, lens, place),
-            ExprKind::SelfRef => return foretell_place(image, l, ctx, names, words, lens, place),
+            ExprKind::Local => return foretell_place(l, ctx, names, words, lens, place),
+            ExprKind::SelfRef => return foretell_place(l, ctx, names, words, lens, place),
             ExprKind::FieldAccess => return foretell_place(
-                image, l, ctx, names, words, lens, place,
+                l, ctx, names, words, lens, place,
             ),
             ExprKind::Call => return HeldType::plain(PrimitiveType::VOID),
             ExprKind::TraitMethodCall => return HeldType::plain(PrimitiveType::VOID),
             ExprKind::Binary => {
-                let h = foretell_binary(image, l, ctx, names, words, lens, place, inner);
+                let h = foretell_binary(l, ctx, names, words, lens, place, inner);
                 if h.some {
                     let ty = h.ty;
                     return ty;
@@ -129,8 +125,7 @@ pub fn foretell(
 
 // The type of a binary's left, from the type that the binary has.
 pub fn operand_type(
-    image: &[u8],
-    l: Layout,
+    l: &Layout,
     ctx: Context,
     names: &[u32],
     words: &[u32],
@@ -141,11 +136,10 @@ pub fn operand_type(
     nest: u32,
     ty: HeldType,
 ) -> HeldType
-    requires { Inside image.now l }
-    ensures { TellsOperandType image.now l ctx names.now words.now lens.now op left right nest ty result }
+    requires { Inside l.now }
+    ensures { TellsOperandType l.now ctx names.now words.now lens.now op left right nest ty result }
 {
     let h = infer_context::binary_hint(
-        image,
         l,
         ctx,
         names,
@@ -163,5 +157,5 @@ pub fn operand_type(
     if op < 4 {
         return ty;
     }
-    foretell(image, l, ctx, names, words, lens, left, nest)
+    foretell(l, ctx, names, words, lens, left, nest)
 }

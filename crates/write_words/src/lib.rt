@@ -55,16 +55,15 @@ pub fn put_type(out: &mut [u8], limit: usize, to: usize, ty: HeldType) -> usize
 
 // So many words of the pool.
 pub fn put_words(
-    image: &[u8],
-    l: Layout,
+    l: &Layout,
     at: usize,
     count: usize,
     out: &mut [u8],
     limit: usize,
     to: usize,
 ) -> usize
-    requires { Inside image.now l × (limit ≤ length out.old) }
-    ensures { (ws : List ℕ) (n : ℕ) → Stands (pool_words image.now l) ws at n → length ws ≡ count → Written limit to ws out.old result out.new }
+    requires { Inside l.now × (limit ≤ length out.old) }
+    ensures { (ws : List ℕ) (n : ℕ) → Stands (pool_words l.now) ws at n → length ws ≡ count → Written limit to ws out.old result out.new }
 {
     let pool = l.pool;
     let mut i = 0;
@@ -75,7 +74,7 @@ pub fn put_words(
             out,
             limit,
             next,
-            image_words::section_word(image, pool, from),
+            image_words::section_word(pool, from),
         );
         from = image_words::after(pool, from);
         i += 1;

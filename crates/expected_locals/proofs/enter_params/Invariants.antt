@@ -8,7 +8,7 @@ use Rattle.expected_locals.proofs.enter_params.Given as goal
 
 abbrev pub invariant-loop-i : goal.invariant-loop-i
 invariant-loop-i l =
-    (length l.names ≡ length l.initial.names) × (length l.words ≡ length l.initial.words) × (length l.lens ≡ length l.initial.lens) × ((h : ParamsHere l.image l.l l.params l.at) → Left h l.i l.next l.names l.words l.lens)
+    (length l.names ≡ length l.initial.names) × (length l.words ≡ length l.initial.words) × (length l.lens ≡ length l.initial.lens) × ((h : ParamsHere l.l l.params l.at) → Left h l.i l.next l.names l.words l.lens)
 
 abbrev pub decreases-loop-i : goal.decreases-loop-i
 decreases-loop-i l = l.count - l.i

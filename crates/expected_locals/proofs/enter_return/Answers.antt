@@ -15,7 +15,7 @@ overflow_add-result c = let p = c.requires in omega (arith, pool_small p.0.insid
 pub returns-then-form-eq0 : goal.returns-then-form-eq0
 returns-then-form-eq0 c h =
     let a = c.args in
-    let k = none_at a.l.names.rows (pool_words a.image.now a.l) a.at h.behind h.schema h.seen h.tree h.stands (sym c.section_word-form.ensures ∙ c.if-form-eq0.true) in
+    let k = none_at a.l.now.names.rows (pool_words a.l.now) a.at h.behind h.schema h.seen h.tree h.stands (sym c.section_word-form.ensures ∙ c.if-form-eq0.true) in
     says_done k.0 k.1 (none_done _ _ _ refl c.none.ensures refl)
 
 pub overflow_add-at : goal.overflow_add-at
@@ -24,9 +24,9 @@ overflow_add-at c = let p = c.requires in omega (arith, pool_small p.0.inside (r
 pub returns-then-form-eq1 : goal.returns-then-form-eq1
 returns-then-form-eq1 c h =
     let a = c.args in
-    let k = resolved_at a.l.names.rows (pool_words a.image.now a.l) a.at h.behind h.schema h.seen h.tree h.stands (sym c.section_word-form.ensures ∙ c.if-form-eq1.true) in
+    let k = resolved_at a.l.now.names.rows (pool_words a.l.now) a.at h.behind h.schema h.seen h.tree h.stands (sym c.section_word-form.ensures ∙ c.if-form-eq1.true) in
     let t = c.hold_type-h.ensures k.ty h.behind k.stands.words_at k.stands.good in
-    says_done k.is t.1 (c.as_return.ensures a.l.names.rows k.ty t.0)
+    says_done k.is t.1 (c.as_return.ensures a.l.now.names.rows k.ty t.0)
 
 pub overflow_add-at-2 : goal.overflow_add-at-2
 overflow_add-at-2 c = let p = c.requires in omega (arith, pool_small p.0.inside (return_inside _ _ _ _ p.1.tree p.1.stands))
@@ -36,14 +36,14 @@ returns-then-not-s c h =
     let a = c.args in
     let w = c.section_word-form.ensures in
     let s = c.substitute-s in
-    let k = expression_at a.l.names.rows (pool_words a.image.now a.l) a.at h.behind h.schema h.seen h.tree h.stands (λ e. c.if-form-eq0.false (w ∙ e)) (λ e. c.if-form-eq1.false (w ∙ e)) in
-    says_large (k.large (is_large a.l.names.rows h.behind s.result (substitute_type h.schema h.seen k.expr) (s.ensures h.schema h.opened h.seen h.views k.expr h.behind (expr_here k.stands)) (not-true _ c.if-not-s.true))) refl
+    let k = expression_at a.l.now.names.rows (pool_words a.l.now) a.at h.behind h.schema h.seen h.tree h.stands (λ e. c.if-form-eq0.false (w ∙ e)) (λ e. c.if-form-eq1.false (w ∙ e)) in
+    says_large (k.large (is_large a.l.now.names.rows h.behind s.result (substitute_type h.schema h.seen k.expr) (s.ensures h.schema h.opened h.seen h.views k.expr h.behind (expr_here k.stands)) (not-true _ c.if-not-s.true))) refl
 
 pub returns : goal.returns
 returns c h =
     let a = c.args in
     let w = c.section_word-form.ensures in
     let s = c.substitute-s in
-    let k = expression_at a.l.names.rows (pool_words a.image.now a.l) a.at h.behind h.schema h.seen h.tree h.stands (λ e. c.if-form-eq0.false (w ∙ e)) (λ e. c.if-form-eq1.false (w ∙ e)) in
-    let t = taken a.l.names.rows h.behind s.result (substitute_type h.schema h.seen k.expr) (s.ensures h.schema h.opened h.seen h.views k.expr h.behind (expr_here k.stands)) (not-false _ c.if-not-s.false) in
-    says_done (k.makes t.is) t.next (c.as_return-2.ensures a.l.names.rows t.t t.holds)
+    let k = expression_at a.l.now.names.rows (pool_words a.l.now) a.at h.behind h.schema h.seen h.tree h.stands (λ e. c.if-form-eq0.false (w ∙ e)) (λ e. c.if-form-eq1.false (w ∙ e)) in
+    let t = taken a.l.now.names.rows h.behind s.result (substitute_type h.schema h.seen k.expr) (s.ensures h.schema h.opened h.seen h.views k.expr h.behind (expr_here k.stands)) (not-false _ c.if-not-s.false) in
+    says_done (k.makes t.is) t.next (c.as_return-2.ensures a.l.now.names.rows t.t t.holds)

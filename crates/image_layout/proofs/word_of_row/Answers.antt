@@ -2,7 +2,9 @@
 use native.Mathlib.Omega.{arith}
 use borrow.Author.Tests.{le-ltb, lt-ltb}
 use Prim.Native.Nat.{◌<◌}
+use Rattle.image_words.proofs.Sections.{length_section}
 use Rattle.image_layout.specs.Rows.{row_word}
+use Rattle.image_layout.proofs.Words.{row_inside}
 use Rattle.image_layout.proofs.word_of_row.Goals as goal
 
 pub returns-then-t-i : goal.returns-then-t-i
@@ -13,9 +15,15 @@ pub returns-then-t-k : goal.returns-then-t-k
 unfolding row_word
 returns-then-t-k c = rw (lt-ltb _ _ c.if-t-i.false, le-ltb _ _ c.if-t-k.true)
 
+pub overflow_mul-t : goal.overflow_mul-t
+overflow_mul-t c = let t = c.args.t.now in omega (arith, row_inside t.width c.args.i t.rows c.args.k c.if-t-i.false c.if-t-k.false, c.requires.whole, length_section t.words.now)
+
+pub overflow_add-t : goal.overflow_add-t
+overflow_add-t c = let t = c.args.t.now in omega (arith, row_inside t.width c.args.i t.rows c.args.k c.if-t-i.false c.if-t-k.false, c.requires.whole, length_section t.words.now)
+
 pub returns : goal.returns
 unfolding row_word
 returns c =
-    let i : c.args.i < c.args.t.rows = omega arith in
-    let k : c.args.k < c.args.t.width = omega arith in
+    let i : c.args.i < c.args.t.now.rows = omega arith in
+    let k : c.args.k < c.args.t.now.width = omega arith in
     rw (lt-ltb _ _ i, lt-ltb _ _ k) c.section_word.ensures

@@ -4,7 +4,6 @@ use Prim.Native.Nat.{ℕ}
 use native.Mathlib.Omega.{arith}
 use lib.ListN.{get_or}
 use Rattle.image_layout.specs.Open.{pool_words}
-use Rattle.image_words.proofs.Sections.{length_section}
 use Rattle.pool_types.proofs.TypeAt.{shape_at}
 use Rattle.impl_target.proofs.TargetRows.{not_named, named}
 use Rattle.impl_target.proofs.target_message.Goals as goal
@@ -16,8 +15,8 @@ pub returns : goal.returns
 returns c =
     λ s o t n q.
     let a = c.args in
-    let ws = pool_words a.image.now a.l in
-    let inside = (shape_at a.l.names.rows ws t a.at n q.parts).inside in
+    let ws = pool_words a.l.now in
+    let inside = (shape_at a.l.now.names.rows ws t a.at n q.parts).inside in
     named o t a.at n q (sym c.section_word.ensures ∙ c.if-section_word-ne-NAMED.false)
-    (c.section_word-d.ensures ∙ ap (λ (k : ℕ). get_or ws k 0) (c.after.ensures (omega (arith, length_section o.inside.pool))))
+    (c.section_word-d.ensures ∙ ap (λ (k : ℕ). get_or ws k 0) (c.after.ensures (omega arith)))
     _ c.definition_row-row.ensures c.is_message.ensures

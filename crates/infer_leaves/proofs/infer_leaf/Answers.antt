@@ -22,10 +22,10 @@ pub returns-in-FieldAccess : goal.returns-in-FieldAccess
 returns-in-FieldAccess c = λ b u x i nest e n s o w. of_field x o _ _ (sym c.kind_at-k.ensures ∙ c.in-FieldAccess.is) (λ d s k. c.infer_place-in-FieldAccess.ensures x i _ d n s (lit< tt) (lit< tt) o w k) e s
 
 pub returns-in-Call : goal.returns-in-Call
-returns-in-Call c = λ b u x i nest e n s o w. of_call x o _ _ (sym c.kind_at-k.ensures ∙ c.in-Call.is) _ c.operand.ensures (c.refused.ensures (lit< tt) (lit< tt) c.args.l.names.rows x.function) e s
+returns-in-Call c = λ b u x i nest e n s o w. of_call x o _ _ (sym c.kind_at-k.ensures ∙ c.in-Call.is) _ c.operand.ensures (c.refused.ensures (lit< tt) (lit< tt) c.args.l.now.names.rows x.function) e s
 
 pub returns-in-TraitMethodCall : goal.returns-in-TraitMethodCall
-returns-in-TraitMethodCall c = λ b u x i nest e n s o w. of_method x o _ _ (sym c.kind_at-k.ensures ∙ c.in-TraitMethodCall.is) _ c.method_name.ensures (c.refused-in-TraitMethodCall.ensures (lit< tt) (lit< tt) c.args.l.names.rows x.function) e s
+returns-in-TraitMethodCall c = λ b u x i nest e n s o w. of_method x o _ _ (sym c.kind_at-k.ensures ∙ c.in-TraitMethodCall.is) _ c.method_name.ensures (c.refused-in-TraitMethodCall.ensures (lit< tt) (lit< tt) c.args.l.now.names.rows x.function) e s
 
 pub returns-in-Binary : goal.returns-in-Binary
 returns-in-Binary c = λ b u x i nest e n s o w. of_no_leaf x o _ _ _ (sym c.kind_at-k.ensures) c.in-Binary.in-Binary-own.keys8 b u e s

@@ -14,7 +14,7 @@ pub returns-then-m : goal.returns-then-m
 returns-then-m c =
     λ nest k low high n s o w x.
     let v = words_of s in
-    let rows = c.args.l.names.rows in
+    let rows = c.args.l.now.names.rows in
     let e : c.section_word-code.result ≡ k = c.section_word-code.ensures ∙ v.code in
     let m : MaybeHolds rows c.literal_type-m.result (literal_type k (low + 4294967296 * high) o) = subst₂ (λ (a b : ℕ). MaybeHolds rows c.literal_type-m.result (literal_type a b o)) e (c.literal_bits.ensures nest k low high n s) (c.literal_type-m.ensures (omega (arith, e, v.known)) rows o w) in
     says_typed x rows _ k low high o _ m _ c.if-m.true (λ t p. c.ended.ensures rows o t w p x _)
@@ -23,7 +23,7 @@ pub returns : goal.returns
 returns c =
     λ nest k low high n s o w x.
     let v = words_of s in
-    let rows = c.args.l.names.rows in
+    let rows = c.args.l.now.names.rows in
     let e : c.section_word-code.result ≡ k = c.section_word-code.ensures ∙ v.code in
     let i : c.section_word-code.result < 3 = omega (arith, e, v.known) in
     let m : MaybeHolds rows c.literal_type-m.result (literal_type k (low + 4294967296 * high) o) = subst₂ (λ (a b : ℕ). MaybeHolds rows c.literal_type-m.result (literal_type a b o)) e (c.literal_bits.ensures nest k low high n s) (c.literal_type-m.ensures i rows o w) in

@@ -4,7 +4,6 @@ use native.Mathlib.Omega.{arith}
 use mathlib.Core.Path.{◌≡◌, ap, ◌∙◌}
 use lib.ListN.{get_or}
 use Rattle.image_layout.specs.Open.{pool_words}
-use Rattle.image_words.proofs.Sections.{length_section}
 use Rattle.infer_leaves.proofs.Literals.{words_of}
 use Rattle.infer_leaves.proofs.literal_bits.Goals as goal
 
@@ -12,7 +11,7 @@ pub returns : goal.returns
 returns c =
     λ nest q low high n s.
     let v = words_of s in
-    let g : ℕ → ℕ = λ (k : ℕ). get_or (pool_words c.args.image.now c.args.l) k 0 in
+    let g : ℕ → ℕ = λ (k : ℕ). get_or (pool_words c.args.l.now) k 0 in
     let i = length_section c.requires.pool in
     let a : c.after-next.result ≡ c.args.at + 1 = c.after-next.ensures (omega (arith, i, v.first)) in
     let b : c.after.result ≡ c.args.at + 1 + 1 = c.after.ensures (omega (arith, i, v.first)) ∙ omega arith in

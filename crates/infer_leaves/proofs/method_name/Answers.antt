@@ -4,7 +4,6 @@ use mathlib.Core.Path.{◌≡◌, ap, ◌∙◌}
 use Prim.Native.Nat.{ℕ, ◌+◌}
 use lib.ListN.{get_or}
 use Rattle.image_layout.specs.Open.{pool_words}
-use Rattle.image_words.proofs.Sections.{length_section}
 use Rattle.infer_leaves.proofs.Leaves.{method_word}
 use Rattle.infer_leaves.proofs.method_name.Goals as goal
 
@@ -14,4 +13,4 @@ returns c =
     let w = method_word s in
     let i = length_section c.requires.pool in
     let a : c.after.result ≡ c.args.at + 1 = c.after.ensures (omega (arith, i, w.0)) in
-    c.operand.ensures (omega (arith, w.0)) ∙ ap (λ (k : ℕ). get_or (pool_words c.args.image.now c.args.l) (k + 1) 0) a ∙ w.1
+    c.operand.ensures (omega (arith, w.0)) ∙ ap (λ (k : ℕ). get_or (pool_words c.args.l.now) (k + 1) 0) a ∙ w.1

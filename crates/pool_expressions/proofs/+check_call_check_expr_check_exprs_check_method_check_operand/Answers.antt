@@ -26,51 +26,51 @@ check_expr-returns-then-nesting-eq0 t c = tree_deep (expr_is _ _) _ c.if-nesting
 
 pub check_expr-returns-then-not-a : goal.check_expr-returns-then-not-a
 unfolding expr_node
-check_expr-returns-then-not-a t c = tree_stop (expr_is _ _) (c.check_word-a.ensures _ c.requires) _ c.if-nesting-eq0.false (not-true _ c.if-not-a.true)
+check_expr-returns-then-not-a t c = tree_stop (expr_is _ _) c.check_word-a.ensures _ c.if-nesting-eq0.false (not-true _ c.if-not-a.true)
 
 pub check_expr-returns-in-Literal : goal.check_expr-returns-in-Literal
 unfolding expr_node
-check_expr-returns-in-Literal t c = tree_then (expr_is _ _) (c.check_word-a.ensures _ c.requires) _ c.if-nesting-eq0.false (not-false _ c.if-not-a.false) c.section_word.ensures (sym c.in-Literal.ensures) (last _ (c.check_wide.ensures _ c.requires))
+check_expr-returns-in-Literal t c = tree_then (expr_is _ _) c.check_word-a.ensures _ c.if-nesting-eq0.false (not-false _ c.if-not-a.false) c.section_word.ensures (sym c.in-Literal.ensures) (last _ c.check_wide.ensures)
 
 pub check_expr-returns-in-Flag : goal.check_expr-returns-in-Flag
 unfolding expr_node
-check_expr-returns-in-Flag t c = tree_then (expr_is _ _) (c.check_word-a.ensures _ c.requires) _ c.if-nesting-eq0.false (not-false _ c.if-not-a.false) c.section_word.ensures (sym c.in-Flag.ensures) (last _ c.check_below.ensures)
+check_expr-returns-in-Flag t c = tree_then (expr_is _ _) c.check_word-a.ensures _ c.if-nesting-eq0.false (not-false _ c.if-not-a.false) c.section_word.ensures (sym c.in-Flag.ensures) (last _ c.check_below.ensures)
 
 pub check_expr-returns-in-Text : goal.check_expr-returns-in-Text
 unfolding expr_node
-check_expr-returns-in-Text t c = tree_then (expr_is _ _) (c.check_word-a.ensures _ c.requires) _ c.if-nesting-eq0.false (not-false _ c.if-not-a.false) c.section_word.ensures (sym c.in-Text.ensures) (last _ c.check_below-in-Text.ensures)
+check_expr-returns-in-Text t c = tree_then (expr_is _ _) c.check_word-a.ensures _ c.if-nesting-eq0.false (not-false _ c.if-not-a.false) c.section_word.ensures (sym c.in-Text.ensures) (last _ c.check_below-in-Text.ensures)
 
 pub check_expr-returns-in-Local : goal.check_expr-returns-in-Local
 unfolding expr_node
-check_expr-returns-in-Local t c = tree_then (expr_is _ _) (c.check_word-a.ensures _ c.requires) _ c.if-nesting-eq0.false (not-false _ c.if-not-a.false) c.section_word.ensures (sym c.in-Local.ensures) (last _ c.check_below-in-Local.ensures)
+check_expr-returns-in-Local t c = tree_then (expr_is _ _) c.check_word-a.ensures _ c.if-nesting-eq0.false (not-false _ c.if-not-a.false) c.section_word.ensures (sym c.in-Local.ensures) (last _ c.check_below-in-Local.ensures)
 
 pub check_expr-returns-in-SelfRef : goal.check_expr-returns-in-SelfRef
 unfolding expr_node
-check_expr-returns-in-SelfRef t c = tree_then (expr_is _ _) (c.check_word-a.ensures _ c.requires) _ c.if-nesting-eq0.false (not-false _ c.if-not-a.false) c.section_word.ensures (sym c.in-SelfRef.ensures) (given _ (not-false _ c.if-not-a.false))
+check_expr-returns-in-SelfRef t c = tree_then (expr_is _ _) c.check_word-a.ensures _ c.if-nesting-eq0.false (not-false _ c.if-not-a.false) c.section_word.ensures (sym c.in-SelfRef.ensures) (given _ (not-false _ c.if-not-a.false))
 
 pub check_expr-returns-in-FieldAccess : goal.check_expr-returns-in-FieldAccess
 unfolding expr_node
-check_expr-returns-in-FieldAccess t c = tree_then (expr_is _ _) (c.check_word-a.ensures _ c.requires) _ c.if-nesting-eq0.false (not-false _ c.if-not-a.false) c.section_word.ensures (sym c.in-FieldAccess.ensures) (after _ c.check_below-in-FieldAccess.ensures c.check_operand.ensures)
+check_expr-returns-in-FieldAccess t c = tree_then (expr_is _ _) c.check_word-a.ensures _ c.if-nesting-eq0.false (not-false _ c.if-not-a.false) c.section_word.ensures (sym c.in-FieldAccess.ensures) (after _ c.check_below-in-FieldAccess.ensures c.check_operand.ensures)
 
 pub check_expr-returns-in-Call : goal.check_expr-returns-in-Call
 unfolding expr_node
-check_expr-returns-in-Call t c = tree_then (expr_is _ _) (c.check_word-a.ensures _ c.requires) _ c.if-nesting-eq0.false (not-false _ c.if-not-a.false) c.section_word.ensures (sym c.in-Call.ensures) c.check_call.ensures
+check_expr-returns-in-Call t c = tree_then (expr_is _ _) c.check_word-a.ensures _ c.if-nesting-eq0.false (not-false _ c.if-not-a.false) c.section_word.ensures (sym c.in-Call.ensures) c.check_call.ensures
 
 pub check_expr-returns-in-TraitMethodCall : goal.check_expr-returns-in-TraitMethodCall
 unfolding expr_node
-check_expr-returns-in-TraitMethodCall t c = tree_then (expr_is _ _) (c.check_word-a.ensures _ c.requires) _ c.if-nesting-eq0.false (not-false _ c.if-not-a.false) c.section_word.ensures (sym c.in-TraitMethodCall.ensures) c.check_method.ensures
+check_expr-returns-in-TraitMethodCall t c = tree_then (expr_is _ _) c.check_word-a.ensures _ c.if-nesting-eq0.false (not-false _ c.if-not-a.false) c.section_word.ensures (sym c.in-TraitMethodCall.ensures) c.check_method.ensures
 
 pub check_expr-returns-in-Binary : goal.check_expr-returns-in-Binary
 unfolding expr_node
-check_expr-returns-in-Binary t c = tree_then (expr_is _ _) (c.check_word-a.ensures _ c.requires) _ c.if-nesting-eq0.false (not-false _ c.if-not-a.false) c.section_word.ensures (sym c.in-Binary.ensures) (after_two _ c.check_below-in-Binary.ensures c.check_operand-l.ensures c.check_operand-in-Binary.ensures)
+check_expr-returns-in-Binary t c = tree_then (expr_is _ _) c.check_word-a.ensures _ c.if-nesting-eq0.false (not-false _ c.if-not-a.false) c.section_word.ensures (sym c.in-Binary.ensures) (after_two _ c.check_below-in-Binary.ensures c.check_operand-l.ensures c.check_operand-in-Binary.ensures)
 
 pub check_expr-returns-in-Unary : goal.check_expr-returns-in-Unary
 unfolding expr_node
-check_expr-returns-in-Unary t c = tree_then (expr_is _ _) (c.check_word-a.ensures _ c.requires) _ c.if-nesting-eq0.false (not-false _ c.if-not-a.false) c.section_word.ensures (sym c.in-Unary.ensures) (after _ c.check_below-in-Unary.ensures c.check_operand-in-Unary.ensures)
+check_expr-returns-in-Unary t c = tree_then (expr_is _ _) c.check_word-a.ensures _ c.if-nesting-eq0.false (not-false _ c.if-not-a.false) c.section_word.ensures (sym c.in-Unary.ensures) (after _ c.check_below-in-Unary.ensures c.check_operand-in-Unary.ensures)
 
 pub check_expr-returns-in-Unknown : goal.check_expr-returns-in-Unknown
 unfolding expr_node
-check_expr-returns-in-Unknown t c = tree_then (expr_is _ _) (c.check_word-a.ensures _ c.requires) _ c.if-nesting-eq0.false (not-false _ c.if-not-a.false) c.section_word.ensures (sym c.in-Unknown.ensures) (failed)
+check_expr-returns-in-Unknown t c = tree_then (expr_is _ _) c.check_word-a.ensures _ c.if-nesting-eq0.false (not-false _ c.if-not-a.false) c.section_word.ensures (sym c.in-Unknown.ensures) (failed)
 
 pub check_exprs-loop-i-init : goal.check_exprs-loop-i-init
 unfolding expr_node

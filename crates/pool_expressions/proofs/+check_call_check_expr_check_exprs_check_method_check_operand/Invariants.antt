@@ -22,7 +22,7 @@ decreases-check_operand l = 4 * l.nesting + 1
 
 -- what is left from here on is what is left of all
 abbrev pub invariant-check_exprs-loop-i : goal.invariant-check_exprs-loop-i
-invariant-check_exprs-loop-i l = Left (exprs (l.count - l.i) (expr_tree l.names l.strings l.nesting)) l.next (exprs l.count (expr_tree l.names l.strings l.nesting)) (section_words l.image l.pool) l.at
+invariant-check_exprs-loop-i l = Left (exprs (l.count - l.i) (expr_tree l.names l.strings l.nesting)) l.next (exprs l.count (expr_tree l.names l.strings l.nesting)) (section_words l.pool) l.at
 
 abbrev pub decreases-check_exprs-loop-i : goal.decreases-check_exprs-loop-i
 decreases-check_exprs-loop-i l = l.count - l.i

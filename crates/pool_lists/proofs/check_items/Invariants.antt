@@ -7,7 +7,7 @@ use Rattle.pool_lists.specs.Items.{item_reader}
 use Rattle.pool_lists.proofs.check_items.Given as goal
 
 abbrev pub invariant-loop-i : goal.invariant-loop-i
-invariant-loop-i l = Left (times (l.count - l.i) (item_reader l.item l.names)) l.next (many l.most (item_reader l.item l.names)) (section_words l.image l.pool) l.at
+invariant-loop-i l = Left (times (l.count - l.i) (item_reader l.item l.names)) l.next (many l.most (item_reader l.item l.names)) (section_words l.pool) l.at
 
 abbrev pub decreases-loop-i : goal.decreases-loop-i
 decreases-loop-i l = l.count - l.i

@@ -2,7 +2,6 @@
 use borrow.Author.Tests.{not-true, not-false}
 use native.Mathlib.Omega.{arith}
 use mathlib.Core.Path.{refl}
-use Rattle.image_words.proofs.Sections.{length_section}
 use Rattle.project_let.proofs.Lets.{name_at, type_at, let_value, let_tested, let_refused, let_entered}
 use Rattle.project_let.proofs.project_let.Goals as goal
 
@@ -12,7 +11,7 @@ returns-then-count-ge-LOCAL_ROWS c = λ f i x t e n s b. absurd (omega (arith, c
 pub returns-then-not-done : goal.returns-then-not-done
 returns-then-not-done c =
     λ f i x t e n s b.
-    let m = c.written_type-w.ensures t _ (type_at s _ (λ k. c.first_part.ensures (omega (arith, length_section c.requires.0.pool)))) in
+    let m = c.written_type-w.ensures t _ (type_at s _ (λ k. c.first_part.ensures (omega arith))) in
     let says = c.infer_expr-r.ensures f i e n (let_value s _ m.1) t m.0 in
     let tested = let_tested f c.operand.result t e _ i.function _ (c.check_let-done.ensures _ _ _ _ i.locals) says in
     let_refused _ _ _ _ _ _ f i (name_at s _ c.operand.ensures) t e tested (not-true _ c.if-not-done.true) refl
@@ -29,7 +28,7 @@ overflow_add-result c = omega (arith, c.if-count-ge-LOCAL_ROWS.false)
 pub returns : goal.returns
 returns c =
     λ f i x t e n s b.
-    let m = c.written_type-w.ensures t _ (type_at s _ (λ k. c.first_part.ensures (omega (arith, length_section c.requires.0.pool)))) in
+    let m = c.written_type-w.ensures t _ (type_at s _ (λ k. c.first_part.ensures (omega arith))) in
     let says = c.infer_expr-r.ensures f i e n (let_value s _ m.1) t m.0 in
     let tested = let_tested f c.operand.result t e _ i.function _ (c.check_let-done.ensures _ _ _ _ i.locals) says in
     let_entered _ _ _ _ _ _ f i (name_at s _ c.operand.ensures) t e tested (not-false _ c.if-not-done.false) _ says (λ v q w. c.write_let-next.ensures f i e n (let_value s _ m.1) t 3 v q w)

@@ -2,9 +2,8 @@
 use native.Mathlib.Omega.{arith}
 use Rattle.image_words.specs.Verdict.{section_words}
 use Rattle.pool_types.specs.TypeAt.{TypeStands}
-use Rattle.image_words.proofs.Sections.{length_section}
 use Rattle.skip_types.proofs.Maybe.{maybe_inside}
 use Rattle.skip_types.proofs.skip_maybe_type.Goals as goal
 
 pub returns-then-pool-at : goal.returns-then-pool-at
-returns-then-pool-at c = λ names o n h. absurd (omega (arith, maybe_inside (section_words c.args.image.now c.args.pool) (TypeStands names (section_words c.args.image.now c.args.pool)) o _ n h, c.if-pool-at.true, length_section c.requires))
+returns-then-pool-at c = λ names o n h. absurd (omega (arith, maybe_inside (section_words c.args.pool.now) (TypeStands names (section_words c.args.pool.now)) o _ n h, c.if-pool-at.true))

@@ -3,13 +3,12 @@ use Prim.Native.Nat.{◌-◌}
 use mathlib.Core.Path.{refl, ap, ◌∙◌}
 use native.Mathlib.Omega.{arith}
 use Rattle.rules.specs.Kinds.{type_kind}
-use Rattle.image_words.proofs.Sections.{length_section}
 use Rattle.skip_types.proofs.Pending.{ended, of_first, turned}
 use Rattle.skip_types.proofs.TypeNodes.{type_parts, type_inside}
 use Rattle.skip_types.proofs.skip_types.Goals as goal
 
 pub returns-then-pool-next : goal.returns-then-pool-next
-returns-then-pool-next c = λ names n h. absurd (of_first (c.loop-pending.invariant.1 names n h) c.loop-pending-test.true (λ e m q. omega (arith, type_inside _ _ e _ m q, c.if-pool-next.true, length_section c.requires)))
+returns-then-pool-next c = λ names n h. absurd (of_first (c.loop-pending.invariant.1 names n h) c.loop-pending-test.true (λ e m q. omega (arith, type_inside _ _ e _ m q, c.if-pool-next.true)))
 
 pub loop-pending-preserved : goal.loop-pending-preserved
 loop-pending-preserved c = (

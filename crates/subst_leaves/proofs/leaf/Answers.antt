@@ -13,5 +13,5 @@ returns c =
       means = λ t n e.
           let p = leaf_stands t e in
           let h = c.hold_type-h.ensures t n p.0 p.1 in
-          one_visit a.l.names.rows a.left n t _ refl h.1 refl h.0;
+          one_visit a.l.now.names.rows a.left n t _ refl h.1 refl h.0;
     }

@@ -16,6 +16,6 @@ returns c =
       means = λ s o ps w x n e.
           let p = named_stands x e in
           let i : c.section_word.result ≡ x = c.section_word.ensures ∙ p.name in
-          one_visit a.l.names.rows a.left n (resolve_name s ps x) _ refl p.next refl
-          (subst (λ (y : ℕ). Holds a.l.names.rows c.resolve_name.result (resolve_name s ps y)) i (c.resolve_name.ensures s o ps w (omega (arith, i, p.below))));
+          one_visit a.l.now.names.rows a.left n (resolve_name s ps x) _ refl p.next refl
+          (subst (λ (y : ℕ). Holds a.l.now.names.rows c.resolve_name.result (resolve_name s ps y)) i (c.resolve_name.ensures s o ps w (omega (arith, i, p.below))));
     }

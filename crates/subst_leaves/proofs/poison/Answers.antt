@@ -13,7 +13,7 @@ use Rattle.subst_leaves.proofs.poison.Goals as goal
 pub returns : goal.returns
 returns c =
     let a = c.args in
-    let names = a.l.names.rows in
+    let names = a.l.now.names.rows in
     record {
       falls = omega arith;
       means = λ x n e.

@@ -17,7 +17,7 @@ returns c =
           let p = qualified_stands q x e in
           let i : c.section_word.result ≡ q = c.section_word.ensures ∙ p.namespace in
           let j : c.section_word-2.result ≡ x = c.section_word-2.ensures ∙ p.name in
-          one_visit a.l.names.rows a.left n (named_or_poison (lookup_qualified s q x)) _ refl p.next refl
-          (subst₂ (λ (y z : ℕ). Holds a.l.names.rows c.resolve_qualified.result (named_or_poison (lookup_qualified s y z))) i j
+          one_visit a.l.now.names.rows a.left n (named_or_poison (lookup_qualified s q x)) _ refl p.next refl
+          (subst₂ (λ (y z : ℕ). Holds a.l.now.names.rows c.resolve_qualified.result (named_or_poison (lookup_qualified s y z))) i j
           (c.resolve_qualified.ensures s o (omega (arith, i, p.namespace_below)) (omega (arith, j, p.below))));
     }

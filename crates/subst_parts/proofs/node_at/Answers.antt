@@ -8,18 +8,18 @@ use Rattle.subst_parts.proofs.node_at.Goals as goal
 pub returns-then-left-eq0 : goal.returns-then-left-eq0
 returns-then-left-eq0 c =
     let a = c.args in
-    whole_at a.image.now a.l a.at a.left c.whole.result c.whole.ensures (λ b. absurd (omega (arith, b.0, c.if-left-eq0.true)))
+    whole_at a.l.now a.at a.left c.whole.result c.whole.ensures (λ b. absurd (omega (arith, b.0, c.if-left-eq0.true)))
 
 pub returns-then-pool-at : goal.returns-then-pool-at
 returns-then-pool-at c =
     let a = c.args in
-    whole_at a.image.now a.l a.at a.left c.whole-then-pool-at.result c.whole-then-pool-at.ensures (λ b. absurd (omega (arith, b.1, c.if-pool-at.true)))
+    whole_at a.l.now a.at a.left c.whole-then-pool-at.result c.whole-then-pool-at.ensures (λ b. absurd (omega (arith, b.1, c.if-pool-at.true)))
 
 pub returns-then-alias : goal.returns-then-alias
 returns-then-alias c =
     let a = c.args in
     let k = ap type_kind (sym c.section_word.ensures) ∙ sym c.type_kind-k.ensures ∙ c.in-Generic.is in
-    (omega arith, c.if-alias.true, (omega (arith, c.if-left-eq0.false), c.if-pool-at.false), k, told a.image.now a.l a.at a.left c.lookup_alias-alias.result c.section_word-in-Generic.result c.section_word-in-Generic.ensures c.lookup_alias-alias.ensures)
+    (omega arith, c.if-alias.true, (omega (arith, c.if-left-eq0.false), c.if-pool-at.false), k, told a.l.now a.at a.left c.lookup_alias-alias.result c.section_word-in-Generic.result c.section_word-in-Generic.ensures c.lookup_alias-alias.ensures)
 
 pub returns-in-One : goal.returns-in-One
 returns-in-One c =
@@ -40,11 +40,11 @@ pub returns-else-alias : goal.returns-else-alias
 returns-else-alias c =
     let a = c.args in
     let k = ap type_kind (sym c.section_word.ensures) ∙ sym c.type_kind-k.ensures ∙ c.in-Generic.is in
-    whole_at a.image.now a.l a.at a.left c.whole-in-Generic.result c.whole-in-Generic.ensures (whole_as a.image.now a.l a.at a.left k
-    (told_none a.image.now a.l a.at a.left c.lookup_alias-alias.result c.section_word-in-Generic.result c.section_word-in-Generic.ensures c.lookup_alias-alias.ensures c.if-alias.false))
+    whole_at a.l.now a.at a.left c.whole-in-Generic.result c.whole-in-Generic.ensures (whole_as a.l.now a.at a.left k
+    (told_none a.l.now a.at a.left c.lookup_alias-alias.result c.section_word-in-Generic.result c.section_word-in-Generic.ensures c.lookup_alias-alias.ensures c.if-alias.false))
 
 pub returns-in_default : goal.returns-in_default
 returns-in_default c =
     let a = c.args in
     let k = ap type_kind (sym c.section_word.ensures) ∙ sym c.type_kind-k.ensures in
-    whole_at a.image.now a.l a.at a.left c.whole-in_default.result c.whole-in_default.ensures (whole_as a.image.now a.l a.at a.left k (other_kind a.image.now a.l a.at a.left c.type_kind-k.result c.in_default.not-Generic c.in_default.not-One c.in_default.not-Fixed c.in_default.not-Two))
+    whole_at a.l.now a.at a.left c.whole-in_default.result c.whole-in_default.ensures (whole_as a.l.now a.at a.left k (other_kind a.l.now a.at a.left c.type_kind-k.result c.in_default.not-Generic c.in_default.not-One c.in_default.not-Fixed c.in_default.not-Two))

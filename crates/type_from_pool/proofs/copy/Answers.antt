@@ -15,7 +15,7 @@ pub loop-i-preserved : goal.loop-i-preserved
 loop-i-preserved c =
     let v = c.loop-i.invariant in
     let a = c.args in
-    let ws = section_words a.image.now a.pool in
+    let ws = section_words a.pool.now in
     record {
       within = omega (arith, v.within);
       few = v.few;
@@ -30,7 +30,7 @@ pub returns : goal.returns
 returns c names t s g =
     let v = c.loop-i.invariant in
     let a = c.args in
-    let ws = section_words a.image.now a.pool in
+    let ws = section_words a.pool.now in
     let n : c.less-n.result ≡ length (run t) = omega (arith, s.next, c.less-n.ensures) in
     let i : c.loop-i.i ≡ length (run t) = omega (arith, v.within) in
     holds names

@@ -18,7 +18,7 @@ pub record Inv (ws : List ℕ) (at end n : ℕ) (words : List ℕ) (seen : Seen)
   pub passed : (u : List ℕ) → Stands ws u at end → Passed u i before seen
 
 abbrev pub invariant-loop-i : goal.invariant-loop-i
-invariant-loop-i l = Inv (section_words l.image l.pool) l.at l.end l.n l.words l.seen l.before l.i
+invariant-loop-i l = Inv (section_words l.pool) l.at l.end l.n l.words l.seen l.before l.i
 
 abbrev pub decreases-loop-i : goal.decreases-loop-i
 decreases-loop-i l = l.n - l.i

@@ -13,5 +13,5 @@ use Rattle.type_from_pool.proofs.hold_type.Goals as goal
 pub returns : goal.returns
 returns c t n s g =
     let a = c.args in
-    let e = c.skip_type-n.ensures.resolved a.l.names.rows t n (of (type_gives a.l.names.rows _ _) (reads_at (type_exact a.l.names.rows) t g s)).1.parts in
-    (c.copy.ensures a.l.names.rows t (subst (λ (k : ℕ). Stands (pool_words a.image.now a.l) (run t) a.at k) (sym e) s) g, e)
+    let e = c.skip_type-n.ensures.resolved a.l.now.names.rows t n (of (type_gives a.l.now.names.rows _ _) (reads_at (type_exact a.l.now.names.rows) t g s)).1.parts in
+    (c.copy.ensures a.l.now.names.rows t (subst (λ (k : ℕ). Stands (pool_words a.l.now) (run t) a.at k) (sym e) s) g, e)

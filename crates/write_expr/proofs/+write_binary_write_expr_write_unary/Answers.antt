@@ -9,7 +9,6 @@ use Rattle.rules.specs.Syntax.{run, Expr}
 use Rattle.rules.specs.Infer.{type_of, infer_expr}
 use Rattle.type_words.specs.Runs.{Runs}
 use Rattle.image_layout.specs.Open.{pool_words}
-use Rattle.image_words.proofs.Sections.{length_section}
 use Rattle.infer_context.proofs.Nodes.{deep, binary_word}
 use Rattle.infer_context.proofs.Operands.{left_at, right_at, value_at}
 use Rattle.write_expr_type.specs.Foretold.{left_type}
@@ -22,7 +21,7 @@ pub write_binary-returns : goal.write_binary-returns
 write_binary-returns t c = λ x i outer op d e n z s o context v q w.
     let a = c.args in
     let u = binary_word op d e s in
-    let f : a.at + 1 < length (pool_words a.image.now a.l) → c.first_part-left.result ≡ a.at + 1 + 1 = λ h. c.first_part-left.ensures (omega (arith, length_section c.requires.0.pool)) in
+    let f : a.at + 1 < length (pool_words a.l.now) → c.first_part-left.result ≡ a.at + 1 + 1 = λ h. c.first_part-left.ensures (omega arith) in
     let l = left_at outer a.nest z a.at _ f op d e s in
     let r = right_at outer a.nest z a.at _ f op d e s _ c.skip_expr-right.ensures in
     let p = operands_of x op d e o context v q in
@@ -52,7 +51,7 @@ write_expr-returns t c = λ x i e n s o context v q w.
 pub write_unary-returns : goal.write_unary-returns
 write_unary-returns t c = λ x i outer op e n z s o context v q w.
     let a = c.args in
-    let f : a.at + 1 < length (pool_words a.image.now a.l) → c.first_part-value.result ≡ a.at + 1 + 1 = λ h. c.first_part-value.ensures (omega (arith, length_section c.requires.0.pool)) in
+    let f : a.at + 1 < length (pool_words a.l.now) → c.first_part-value.result ≡ a.at + 1 + 1 = λ h. c.first_part-value.ensures (omega arith) in
     let p = value_of x op e o context v q in
     written_unary x op _ _ p (c.put_words-a.ensures (11 ∷ op ∷ []) _ (unary_head op e s) refl)
     (c.write_expr.ensures x i e n (value_at outer a.nest z a.at _ f op e s) o 7 p.value p.value_is (value_runs x op e o v p _ w))

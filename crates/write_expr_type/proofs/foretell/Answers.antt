@@ -2,7 +2,6 @@
 use native.Mathlib.Omega.{arith}
 use mathlib.Core.Path.{refl, sym, subst, ◌∙◌}
 use Rattle.type_words.specs.Holds.{Holds}
-use Rattle.image_words.proofs.Sections.{length_section}
 use Rattle.infer_context.proofs.Nodes.{deep}
 use Rattle.infer_context.proofs.Operands.{left_at, value_at}
 use Rattle.infer_leaves.proofs.Plain.{bool_held, void_held, string_held}
@@ -50,9 +49,9 @@ pub loop-inner-preserved : goal.loop-inner-preserved
 loop-inner-preserved c =
     λ r h. c.loop-inner.invariant r (λ x i e n s. elim c.match-k.branch [
       | in-Binary+else-h p ↦ told_binary x r (sym c.kind_at-k.ensures ∙ p.in-Binary.is) (λ op d f s.
-          let l = left_at _ _ refl _ _ (λ q. c.first_part-place.ensures (omega (arith, length_section c.requires.pool))) op d f s in
+          let l = left_at _ _ refl _ _ (λ q. c.first_part-place.ensures (omega arith)) op d f s in
           subst (Holds _ r) (sym (binary_left x _ op d f _ (p.foretell_binary-h.ensures x i _ op d f n refl s) p.if-h.false)) (h x i d _ l)) e s
-      | in-Unary p ↦ told_unary x r (sym c.kind_at-k.ensures ∙ p.in-Unary.is) (λ op f s. h x i f n (value_at _ _ refl _ _ (λ q. c.first_part-place.ensures (omega (arith, length_section c.requires.pool))) op f s)) e s
+      | in-Unary p ↦ told_unary x r (sym c.kind_at-k.ensures ∙ p.in-Unary.is) (λ op f s. h x i f n (value_at _ _ refl _ _ (λ q. c.first_part-place.ensures (omega arith)) op f s)) e s
     ])
 
 pub returns : goal.returns

@@ -5,7 +5,6 @@ use native.Mathlib.Omega.{arith}
 use mathlib.Core.Path.{◌≡◌, ap, ◌∙◌}
 use lib.ListN.{length, get_or}
 use Rattle.image_words.specs.Verdict.{section_words}
-use Rattle.image_words.proofs.Sections.{length_section}
 use Rattle.write_words.proofs.Written.{written_none, written_more}
 use Rattle.write_words.proofs.Copies.{stands_word, stands_within}
 use Rattle.write_words.proofs.put_words.Goals as goal
@@ -21,7 +20,7 @@ loop-i-preserved c = (
       let v = c.loop-i.invariant.2 ws n s l in
       let h : c.loop-i.i < length ws = omega (arith, l, c.loop-i-test.true) in
       let e : c.loop-i.from ≡ c.args.at + c.loop-i.i = v.0 in (
-        c.after-from.ensures (omega (arith, stands_within s c.loop-i.i h, length_section c.requires.0.pool)) ∙ omega arith,
-        written_more _ _ ws c.loop-i.i h v.1 (c.section_word.ensures ∙ ap (λ (k : ℕ). get_or (section_words c.args.image.now c.args.l.pool) k 0) e ∙ stands_word s c.loop-i.i h) c.put-next.ensures,
+        c.after-from.ensures (omega (arith, stands_within s c.loop-i.i h)) ∙ omega arith,
+        written_more _ _ ws c.loop-i.i h v.1 (c.section_word.ensures ∙ ap (λ (k : ℕ). get_or (section_words c.args.l.now.pool) k 0) e ∙ stands_word s c.loop-i.i h) c.put-next.ensures,
       ),
 )

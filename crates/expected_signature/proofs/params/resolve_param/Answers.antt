@@ -15,17 +15,17 @@ overflow_add-at c = omega (arith, pool_small c.requires.0.inside c.requires.1.st
 pub returns-then-not-s : goal.returns-then-not-s
 returns-then-not-s c =
     λ h. let a = c.args in
-    says_large (param_large h.schema h.seen h.tree (is_large a.l.names.rows h.behind c.substitute-s.result (substitute_type h.schema h.seen h.tree.ty) (c.substitute-s.ensures h.schema h.opened h.seen h.views h.tree.ty h.behind (expr_here h.stands.type_at)) (not-true _ c.if-not-s.true))) c.too_large.ensures
+    says_large (param_large h.schema h.seen h.tree (is_large a.l.now.names.rows h.behind c.substitute-s.result (substitute_type h.schema h.seen h.tree.ty) (c.substitute-s.ensures h.schema h.opened h.seen h.views h.tree.ty h.behind (expr_here h.stands.type_at)) (not-true _ c.if-not-s.true))) c.too_large.ensures
 
 pub returns : goal.returns
 unfolding param_words
 returns c =
     λ h. let a = c.args in
-    let k = taken a.l.names.rows h.behind c.substitute-s.result (substitute_type h.schema h.seen h.tree.ty) (c.substitute-s.ensures h.schema h.opened h.seen h.views h.tree.ty h.behind (expr_here h.stands.type_at)) (not-false _ c.if-not-s.false) in
+    let k = taken a.l.now.names.rows h.behind c.substitute-s.result (substitute_type h.schema h.seen h.tree.ty) (c.substitute-s.ensures h.schema h.opened h.seen h.views h.tree.ty h.behind (expr_here h.stands.type_at)) (not-false _ c.if-not-s.false) in
     says_done (param_done h.schema h.seen h.tree k.is) (record {
       ok = refl;
       visits = k.visits;
       next = k.next;
-      poison = c.contains_poison.ensures.1 a.l.names.rows k.t k.holds;
+      poison = c.contains_poison.ensures.1 a.l.now.names.rows k.t k.holds;
       writes = writes_same (param_is (c.section_word.ensures ∙ h.stands.name_at.is) k.holds.run) (writes_then c.put-a.ensures c.put_type-b.ensures);
     })

@@ -17,8 +17,8 @@ overflow_add-at c = omega (arith, pool_small c.requires.0.inside (return_inside 
 pub returns-then-form-eq0 : goal.returns-then-form-eq0
 returns-then-form-eq0 c =
     λ h. let a = c.args in
-    let k = none_at a.l.names.rows (pool_words a.image.now a.l) a.at h.behind h.schema h.seen h.tree h.stands (sym c.section_word-form.ensures ∙ c.if-form-eq0.true) in
-    says_done k.0 (done_same refl k.1 (c.put_return.ensures a.l.names.rows none c.none.ensures))
+    let k = none_at a.l.now.names.rows (pool_words a.l.now) a.at h.behind h.schema h.seen h.tree h.stands (sym c.section_word-form.ensures ∙ c.if-form-eq0.true) in
+    says_done k.0 (done_same refl k.1 (c.put_return.ensures a.l.now.names.rows none c.none.ensures))
 
 pub overflow_add-at-then-form-eq1 : goal.overflow_add-at-then-form-eq1
 overflow_add-at-then-form-eq1 c = omega (arith, pool_small c.requires.0.inside (return_inside _ _ _ _ c.requires.1.tree c.requires.1.stands))
@@ -26,9 +26,9 @@ overflow_add-at-then-form-eq1 c = omega (arith, pool_small c.requires.0.inside (
 pub returns-then-form-eq1 : goal.returns-then-form-eq1
 returns-then-form-eq1 c =
     λ h. let a = c.args in
-    let k = resolved_at a.l.names.rows (pool_words a.image.now a.l) a.at h.behind h.schema h.seen h.tree h.stands (sym c.section_word-form.ensures ∙ c.if-form-eq1.true) in
+    let k = resolved_at a.l.now.names.rows (pool_words a.l.now) a.at h.behind h.schema h.seen h.tree h.stands (sym c.section_word-form.ensures ∙ c.if-form-eq1.true) in
     let t = c.hold_type-h.ensures k.ty h.behind k.stands.words_at k.stands.good in
-    says_done k.is (done_same refl t.1 (c.put_return-then-form-eq1.ensures a.l.names.rows (some k.ty) (c.some.ensures.0, subst (λ (x : HeldType). Holds a.l.names.rows x k.ty) (sym c.some.ensures.1) t.0)))
+    says_done k.is (done_same refl t.1 (c.put_return-then-form-eq1.ensures a.l.now.names.rows (some k.ty) (c.some.ensures.0, subst (λ (x : HeldType). Holds a.l.now.names.rows x k.ty) (sym c.some.ensures.1) t.0)))
 
 pub overflow_add-at-2 : goal.overflow_add-at-2
 overflow_add-at-2 c = omega (arith, pool_small c.requires.0.inside (return_inside _ _ _ _ c.requires.1.tree c.requires.1.stands))
@@ -36,12 +36,12 @@ overflow_add-at-2 c = omega (arith, pool_small c.requires.0.inside (return_insid
 pub returns-then-not-s : goal.returns-then-not-s
 returns-then-not-s c =
     λ h. let a = c.args in
-    let k = expression_at a.l.names.rows (pool_words a.image.now a.l) a.at h.behind h.schema h.seen h.tree h.stands (λ e. c.if-form-eq0.false (c.section_word-form.ensures ∙ e)) (λ e. c.if-form-eq1.false (c.section_word-form.ensures ∙ e)) in
-    says_large (k.large (is_large a.l.names.rows h.behind c.substitute-s.result (substitute_type h.schema h.seen k.expr) (c.substitute-s.ensures h.schema h.opened h.seen h.views k.expr h.behind (expr_here k.stands)) (not-true _ c.if-not-s.true))) c.too_large.ensures
+    let k = expression_at a.l.now.names.rows (pool_words a.l.now) a.at h.behind h.schema h.seen h.tree h.stands (λ e. c.if-form-eq0.false (c.section_word-form.ensures ∙ e)) (λ e. c.if-form-eq1.false (c.section_word-form.ensures ∙ e)) in
+    says_large (k.large (is_large a.l.now.names.rows h.behind c.substitute-s.result (substitute_type h.schema h.seen k.expr) (c.substitute-s.ensures h.schema h.opened h.seen h.views k.expr h.behind (expr_here k.stands)) (not-true _ c.if-not-s.true))) c.too_large.ensures
 
 pub returns : goal.returns
 returns c =
     λ h. let a = c.args in
-    let k = expression_at a.l.names.rows (pool_words a.image.now a.l) a.at h.behind h.schema h.seen h.tree h.stands (λ e. c.if-form-eq0.false (c.section_word-form.ensures ∙ e)) (λ e. c.if-form-eq1.false (c.section_word-form.ensures ∙ e)) in
-    let t = taken a.l.names.rows h.behind c.substitute-s.result (substitute_type h.schema h.seen k.expr) (c.substitute-s.ensures h.schema h.opened h.seen h.views k.expr h.behind (expr_here k.stands)) (not-false _ c.if-not-s.false) in
-    says_done (k.makes t.is) (done_same t.visits t.next (c.put_return-2.ensures a.l.names.rows (some t.t) (c.some-2.ensures.0, subst (λ (x : HeldType). Holds a.l.names.rows x t.t) (sym c.some-2.ensures.1) t.holds)))
+    let k = expression_at a.l.now.names.rows (pool_words a.l.now) a.at h.behind h.schema h.seen h.tree h.stands (λ e. c.if-form-eq0.false (c.section_word-form.ensures ∙ e)) (λ e. c.if-form-eq1.false (c.section_word-form.ensures ∙ e)) in
+    let t = taken a.l.now.names.rows h.behind c.substitute-s.result (substitute_type h.schema h.seen k.expr) (c.substitute-s.ensures h.schema h.opened h.seen h.views k.expr h.behind (expr_here k.stands)) (not-false _ c.if-not-s.false) in
+    says_done (k.makes t.is) (done_same t.visits t.next (c.put_return-2.ensures a.l.now.names.rows (some t.t) (c.some-2.ensures.0, subst (λ (x : HeldType). Holds a.l.now.names.rows x t.t) (sym c.some-2.ensures.1) t.holds)))

@@ -4,7 +4,6 @@ use Prim.Native.Nat.{◌-◌}
 use mathlib.Core.Path.{refl, ◌∙◌}
 use native.Mathlib.Omega.{arith}
 use lib.ListN.{length-set}
-use Rattle.image_words.proofs.Sections.{length_section}
 use Rattle.impl_functions.proofs.Walk.{started}
 use Rattle.impl_functions.proofs.NameTables.{named, all_named}
 use Rattle.impl_functions.proofs.names.function_names.Goals as goal
@@ -16,7 +15,7 @@ loop-i-init c = (
   λ ts n h.
       let e = c.section_word.ensures ∙ h.0.is in
       let k = c.few-count.ensures.0 (omega (arith, h.1, e)) ∙ e in
-      (started _ _ ts h.2 k (c.after-next.ensures (omega (arith, h.0.inside, length_section c.requires.pool))) refl, k),
+      (started _ _ ts h.2 k (c.after-next.ensures (omega (arith, h.0.inside))) refl, k),
 )
 
 pub bounds-names-i : goal.bounds-names-i

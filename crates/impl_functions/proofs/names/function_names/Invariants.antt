@@ -9,7 +9,7 @@ use Rattle.impl_functions.proofs.NameTables.{Names}
 use Rattle.impl_functions.proofs.names.function_names.Given as goal
 
 abbrev pub invariant-loop-i : goal.invariant-loop-i
-invariant-loop-i l = (l.count ≤ 64) × (length l.names ≡ 64) × ((ts : List TraitFnDef) (n : ℕ) → AllAskedHere l.image l.l ts l.at n → Names l.image l.l ts l.names n l.count l.i l.next × (l.count ≡ length ts))
+invariant-loop-i l = (l.count ≤ 64) × (length l.names ≡ 64) × ((ts : List TraitFnDef) (n : ℕ) → AllAskedHere l.l ts l.at n → Names l.l ts l.names n l.count l.i l.next × (l.count ≡ length ts))
 
 abbrev pub decreases-loop-i : goal.decreases-loop-i
 decreases-loop-i l = l.count - l.i

@@ -9,7 +9,7 @@ use Rattle.impl_functions.proofs.NameTables.{OwnNames}
 use Rattle.impl_functions.proofs.names.own_names.Given as goal
 
 abbrev pub invariant-loop-i : goal.invariant-loop-i
-invariant-loop-i l = (length l.names ≡ 64) × (l.i ≤ length l.places) × ((fs : List ImplFnDef) → Placed l.image l.l fs l.places → OwnNames l.image l.l fs l.places l.names l.i)
+invariant-loop-i l = (length l.names ≡ 64) × (l.i ≤ length l.places) × ((fs : List ImplFnDef) → Placed l.l fs l.places → OwnNames l.l fs l.places l.names l.i)
 
 abbrev pub decreases-loop-i : goal.decreases-loop-i
 decreases-loop-i l = length l.places - l.i

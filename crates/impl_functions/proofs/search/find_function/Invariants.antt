@@ -8,7 +8,7 @@ use Rattle.impl_functions.proofs.FindByName.{Left}
 use Rattle.impl_functions.proofs.search.find_function.Given as goal
 
 abbrev pub invariant-loop-i : goal.invariant-loop-i
-invariant-loop-i l = (fs : List ImplFnDef) → Placed l.image l.l fs l.places → Left l.image l.l l.places l.x.0 fs l.i
+invariant-loop-i l = (fs : List ImplFnDef) → Placed l.l fs l.places → Left l.l l.places l.x.0 fs l.i
 
 abbrev pub decreases-loop-i : goal.decreases-loop-i
 decreases-loop-i l = length l.places - l.i

@@ -4,7 +4,6 @@ use Prim.Native.Nat.{◌-◌}
 use mathlib.Core.Path.{◌∙◌}
 use native.Mathlib.Omega.{arith}
 use lib.ListN.{length-set}
-use Rattle.image_words.proofs.Sections.{length_section}
 use Rattle.impl_functions.proofs.Walk.{started}
 use Rattle.impl_functions.proofs.PlaceTable.{placed, all_placed}
 use Rattle.impl_functions.proofs.table.function_places.Goals as goal
@@ -16,7 +15,7 @@ loop-i-init c = (
   λ fs n h.
       let e = c.section_word.ensures ∙ h.0.is in
       let k = c.few-count.ensures.0 (omega (arith, h.1, e)) ∙ e in
-      (started _ _ fs h.2 k (c.after-next.ensures (omega (arith, h.0.inside, length_section c.requires.pool))) (λ ps q. q), k),
+      (started _ _ fs h.2 k (c.after-next.ensures (omega (arith, h.0.inside))) (λ ps q. q), k),
 )
 
 pub bounds-places-i : goal.bounds-places-i

@@ -9,7 +9,7 @@ use Rattle.impl_functions.proofs.PlaceTable.{Placing}
 use Rattle.impl_functions.proofs.table.function_places.Given as goal
 
 abbrev pub invariant-loop-i : goal.invariant-loop-i
-invariant-loop-i l = (l.count ≤ 64) × (length l.places ≡ 64) × ((fs : List ImplFnDef) (n : ℕ) → FunctionsHere l.image l.l fs l.at n → Placing (FunctionHere l.image l.l) fs l.places n l.count l.i l.next × (l.count ≡ length fs))
+invariant-loop-i l = (l.count ≤ 64) × (length l.places ≡ 64) × ((fs : List ImplFnDef) (n : ℕ) → FunctionsHere l.l fs l.at n → Placing (FunctionHere l.l) fs l.places n l.count l.i l.next × (l.count ≡ length fs))
 
 abbrev pub decreases-loop-i : goal.decreases-loop-i
 decreases-loop-i l = l.count - l.i

@@ -10,7 +10,7 @@ use Rattle.impl_name_tests.proofs.NameTests.{Tested}
 use Rattle.impl_name_tests.proofs.strangers.no_stranger.Given as goal
 
 abbrev pub invariant-loop-i : goal.invariant-loop-i
-invariant-loop-i l = (ts : List TraitFnDef) (m : ℕ) → AllAskedHere l.image l.l ts l.trait_at m → (fs : List ImplFnDef) → Placed l.image l.l fs l.places → Tested l.image l.l l.places no_stranger (no_stranger (names_of ts) fs) (names_of ts) l.i
+invariant-loop-i l = (ts : List TraitFnDef) (m : ℕ) → AllAskedHere l.l ts l.trait_at m → (fs : List ImplFnDef) → Placed l.l fs l.places → Tested l.l l.places no_stranger (no_stranger (names_of ts) fs) (names_of ts) l.i
 
 abbrev pub decreases-loop-i : goal.decreases-loop-i
 decreases-loop-i l = length l.places - l.i

@@ -6,7 +6,7 @@ use Rattle.impl_rows.proofs.ViewRows.{Left}
 use Rattle.impl_rows.proofs.view.view.Given as goal
 
 abbrev pub invariant-loop-i : goal.invariant-loop-i
-invariant-loop-i l = (length l.table ≡ 528) × ((g : Given l.image l.l l.params l.types l.count) → Left g l.i l.next l.table)
+invariant-loop-i l = (length l.table ≡ 528) × ((g : Given l.l l.params l.types l.count) → Left g l.i l.next l.table)
 
 abbrev pub decreases-loop-i : goal.decreases-loop-i
 decreases-loop-i l = l.count - l.i

@@ -10,7 +10,7 @@ use Rattle.pool_definitions.proofs.implementations.check_impl_functions.Statemen
 use Rattle.pool_definitions.proofs.implementations.check_impl_functions.Given as goal
 
 abbrev pub invariant-loop-i : goal.invariant-loop-i
-invariant-loop-i l = Left (times (l.count - l.i) (impl_function l.names l.strings)) l.next (many 64 (impl_function l.names l.strings)) (section_words l.image l.pool) l.at
+invariant-loop-i l = Left (times (l.count - l.i) (impl_function l.names l.strings)) l.next (many 64 (impl_function l.names l.strings)) (section_words l.pool) l.at
 
 abbrev pub decreases-loop-i : goal.decreases-loop-i
 decreases-loop-i l = l.count - l.i

@@ -10,12 +10,12 @@ returns-then-not-s c = stop _ c.check_below-s.ensures (not-true _ c.if-not-s.tru
 
 pub returns-then-not-n : goal.returns-then-not-n
 unfolding sub_byte
-returns-then-not-n c = then c.check_below-s.ensures (not-false _ c.if-not-s.false) (λ s. stop _ (c.check_word-n.ensures _ c.requires) (not-true _ c.if-not-n.true))
+returns-then-not-n c = then c.check_below-s.ensures (not-false _ c.if-not-s.false) (λ s. stop _ c.check_word-n.ensures (not-true _ c.if-not-n.true))
 
 pub returns-then-bits : goal.returns-then-bits
 unfolding sub_byte
-returns-then-bits c = then c.check_below-s.ensures (not-false _ c.if-not-s.false) (λ s. word_then _ (c.check_word-n.ensures _ c.requires) (not-false _ c.if-not-n.false) c.section_word-bits.ensures (rule_then _ c.if-bits.true (given _ (not-false _ c.if-not-n.false))))
+returns-then-bits c = then c.check_below-s.ensures (not-false _ c.if-not-s.false) (λ s. word_then _ c.check_word-n.ensures (not-false _ c.if-not-n.false) c.section_word-bits.ensures (rule_then _ c.if-bits.true (given _ (not-false _ c.if-not-n.false))))
 
 pub returns : goal.returns
 unfolding sub_byte
-returns c = then c.check_below-s.ensures (not-false _ c.if-not-s.false) (λ s. word_then _ (c.check_word-n.ensures _ c.requires) (not-false _ c.if-not-n.false) c.section_word-bits.ensures (rule_stop _ c.if-bits.false))
+returns c = then c.check_below-s.ensures (not-false _ c.if-not-s.false) (λ s. word_then _ c.check_word-n.ensures (not-false _ c.if-not-n.false) c.section_word-bits.ensures (rule_stop _ c.if-bits.false))

@@ -6,8 +6,8 @@ use Rattle.pool_types.proofs.parts.check_wide.Goals as goal
 
 pub returns-then-not-low : goal.returns-then-not-low
 unfolding wide
-returns-then-not-low c = λ image lies. stop _ (c.check_word-low.ensures _ lies) (not-true _ c.if-not-low.true)
+returns-then-not-low c = stop _ c.check_word-low.ensures (not-true _ c.if-not-low.true)
 
 pub returns : goal.returns
 unfolding wide
-returns c = λ image lies. then (c.check_word-low.ensures _ lies) (not-false _ c.if-not-low.false) (λ a. last _ (c.check_word.ensures _ lies))
+returns c = then c.check_word-low.ensures (not-false _ c.if-not-low.false) (λ a. last _ c.check_word.ensures)

@@ -3,16 +3,15 @@ use Prim.Native.Nat.{◌-◌}
 use mathlib.Core.Path.{ap, ◌∙◌}
 use native.Mathlib.Omega.{arith}
 use Rattle.rules.specs.Kinds.{expr_kind}
-use Rattle.image_words.proofs.Sections.{length_section}
 use Rattle.skip_types.proofs.Pending.{ended, of_first, turned, pending_fits}
 use Rattle.skip_functions.proofs.ExprNodes.{expr_parts, expr_inside}
 use Rattle.skip_functions.proofs.exprs.skip_exprs.Goals as goal
 
 pub returns-then-pool-next : goal.returns-then-pool-next
-returns-then-pool-next c = λ names strings n h. absurd (of_first (c.loop-pending.invariant names strings n h) c.loop-pending-test.true (λ e m q. omega (arith, (expr_inside _ _ _ e _ m q).0, c.if-pool-next.true, length_section c.requires)))
+returns-then-pool-next c = λ names strings n h. absurd (of_first (c.loop-pending.invariant names strings n h) c.loop-pending-test.true (λ e m q. omega (arith, (expr_inside _ _ _ e _ m q).0, c.if-pool-next.true)))
 
 pub returns-then-pool-pending : goal.returns-then-pool-pending
-returns-then-pool-pending c = λ names strings n h. absurd (omega (arith, pending_fits _ (expr_inside names strings _) (c.loop-pending.invariant names strings n h) c.loop-pending-test.true, c.if-pool-pending.true, length_section c.requires))
+returns-then-pool-pending c = λ names strings n h. absurd (omega (arith, pending_fits _ (expr_inside names strings _) (c.loop-pending.invariant names strings n h) c.loop-pending-test.true, c.if-pool-pending.true))
 
 pub loop-pending-preserved : goal.loop-pending-preserved
 loop-pending-preserved c =

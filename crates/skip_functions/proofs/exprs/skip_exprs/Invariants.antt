@@ -6,7 +6,7 @@ use Rattle.skip_types.specs.Pending.{Pending}
 use Rattle.skip_functions.proofs.exprs.skip_exprs.Given as goal
 
 abbrev pub invariant-loop-pending : goal.invariant-loop-pending
-invariant-loop-pending l = (names strings n : ℕ) → Pending (ExprAt names strings (section_words l.image l.pool)) l.count l.at n → Pending (ExprAt names strings (section_words l.image l.pool)) l.pending l.next n
+invariant-loop-pending l = (names strings n : ℕ) → Pending (ExprAt names strings (section_words l.pool)) l.count l.at n → Pending (ExprAt names strings (section_words l.pool)) l.pending l.next n
 
 abbrev pub decreases-loop-pending : goal.decreases-loop-pending
-decreases-loop-pending l = l.pool.len - l.next
+decreases-loop-pending l = length (section_words l.pool) - l.next

@@ -1,12 +1,11 @@
 -- `skip_functions::functions::skip_function` meets its contract. Assumes nothing.
 use native.Mathlib.Omega.{arith}
-use Rattle.image_words.proofs.Sections.{length_section}
 use Rattle.skip_functions.proofs.StatementsLaws.{body_from}
 use Rattle.skip_functions.proofs.FunctionsLaws.{maybe_from}
 use Rattle.skip_functions.proofs.functions.skip_function.Goals as goal
 
 pub returns-then-pool-at : goal.returns-then-pool-at
-returns-then-pool-at c = λ names strings f n h. absurd (omega (arith, h.name_at.inside, c.if-pool-at.true, length_section c.requires))
+returns-then-pool-at c = λ names strings f n h. absurd (omega (arith, h.name_at.inside, c.if-pool-at.true))
 
 pub returns : goal.returns
 returns c =

@@ -1,12 +1,11 @@
 -- `skip_functions::functions::skip_named` meets its contract. The loop's invariant: what is pending ends where the whole does. Assumes nothing.
 use mathlib.Core.Path.{sym}
 use native.Mathlib.Omega.{arith}
-use Rattle.image_words.proofs.Sections.{length_section}
 use Rattle.skip_types.proofs.Pending.{none_left, ended, of_first, turned}
 use Rattle.skip_functions.proofs.functions.skip_named.Goals as goal
 
 pub returns-then-pool-next : goal.returns-then-pool-next
-returns-then-pool-next c = λ names n h. absurd (of_first (c.loop-pending.invariant names n h) c.loop-pending-test.true (λ p m q. omega (arith, q.name_at.inside, c.if-pool-next.true, length_section c.requires)))
+returns-then-pool-next c = λ names n h. absurd (of_first (c.loop-pending.invariant names n h) c.loop-pending-test.true (λ p m q. omega (arith, q.name_at.inside, c.if-pool-next.true)))
 
 pub loop-pending-preserved : goal.loop-pending-preserved
 loop-pending-preserved c = λ names n h. turned (c.loop-pending.invariant names n h) c.loop-pending-test.true (λ p m q. none_left (sym (c.skip_type-next.ensures.expressions names p.ty m q.type_at))) (omega arith)

@@ -8,7 +8,7 @@ use Rattle.skip_functions.proofs.functions.skip_named.Given as goal
 
 abbrev pub invariant-loop-pending : goal.invariant-loop-pending
 invariant-loop-pending l =
-    (names n : ℕ) → Pending (ParamAt names (section_words l.image l.pool) (TypeExprAt names (section_words l.image l.pool))) l.count l.at n → Pending (ParamAt names (section_words l.image l.pool) (TypeExprAt names (section_words l.image l.pool))) l.pending l.next n
+    (names n : ℕ) → Pending (ParamAt names (section_words l.pool) (TypeExprAt names (section_words l.pool))) l.count l.at n → Pending (ParamAt names (section_words l.pool) (TypeExprAt names (section_words l.pool))) l.pending l.next n
 
 abbrev pub decreases-loop-pending : goal.decreases-loop-pending
 decreases-loop-pending l = l.pending

@@ -1,14 +1,13 @@
 -- `skip_functions::functions::skip_params` meets its contract. Assumes nothing.
 use native.Mathlib.Omega.{arith}
-use Rattle.image_words.proofs.Sections.{length_section}
 use Rattle.skip_functions.proofs.FunctionsLaws.{resolved_left, expressions_left}
 use Rattle.skip_functions.proofs.functions.skip_params.Goals as goal
 
 pub returns-then-pool-at-clause-resolved : goal.returns-then-pool-at-clause-resolved
-returns-then-pool-at-clause-resolved c = λ names most ps n h. absurd (omega (arith, h.0.inside, c.if-pool-at.true, length_section c.requires))
+returns-then-pool-at-clause-resolved c = λ names most ps n h. absurd (omega (arith, h.0.inside, c.if-pool-at.true))
 
 pub returns-then-pool-at-clause-expressions : goal.returns-then-pool-at-clause-expressions
-returns-then-pool-at-clause-expressions c = λ names most ps n h. absurd (omega (arith, h.0.inside, c.if-pool-at.true, length_section c.requires))
+returns-then-pool-at-clause-expressions c = λ names most ps n h. absurd (omega (arith, h.0.inside, c.if-pool-at.true))
 
 pub returns-clause-resolved : goal.returns-clause-resolved
 returns-clause-resolved c = λ names most ps n h. c.skip_named.ensures names n (resolved_left names _ _ c.section_word-count.ensures ps h)

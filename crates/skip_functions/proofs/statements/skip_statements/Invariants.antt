@@ -6,7 +6,7 @@ use Rattle.skip_types.specs.Pending.{Pending}
 use Rattle.skip_functions.proofs.statements.skip_statements.Given as goal
 
 abbrev pub invariant-loop-pending : goal.invariant-loop-pending
-invariant-loop-pending l = (names strings n : ℕ) → Pending (StatementAt names strings (section_words l.image l.pool)) l.count l.at n → Pending (StatementAt names strings (section_words l.image l.pool)) l.pending l.next n
+invariant-loop-pending l = (names strings n : ℕ) → Pending (StatementAt names strings (section_words l.pool)) l.count l.at n → Pending (StatementAt names strings (section_words l.pool)) l.pending l.next n
 
 abbrev pub decreases-loop-pending : goal.decreases-loop-pending
 decreases-loop-pending l = l.pending

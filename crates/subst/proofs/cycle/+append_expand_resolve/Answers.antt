@@ -14,7 +14,7 @@ use Rattle.subst.proofs.cycle.+append_expand_resolve.Goals as goal
 
 pub append-start_behind-start-requires : goal.append-start_behind-start-requires
 append-start_behind-start-requires t c = let a = c.args in
-    λ e. (as_parts a.image.now a.l a.at a.left c.node_at-node.result c.node_at-node.ensures Parts.Two e).2.0
+    λ e. (as_parts a.l.now a.at a.left c.node_at-node.result c.node_at-node.ensures Parts.Two e).2.0
 
 pub append-resolve-requires : goal.append-resolve-requires
 append-resolve-requires t c = (omega (arith, c.decreases, behind_left c.node_at-node.result c.args.at c.args.left c.args.n c.start_behind-start.result c.start_behind-start.ensures), c.requires.0)
@@ -25,34 +25,34 @@ append-push_back-g-requires t c = (c.put_at.ensures.0, behind_len c.node_at-node
 pub append-append-rest-requires : goal.append-append-rest-requires
 append-append-rest-requires t c = let a = c.args in
     let s = begins_two c.node_at-node.result a.at a.left a.n c.start_behind-start.result c.start_behind-start.ensures c.if-start.true in
-    let k = as_parts a.image.now a.l a.at a.left c.node_at-node.result c.node_at-node.ensures Parts.Two s.0 in
+    let k = as_parts a.l.now a.at a.left c.node_at-node.result c.node_at-node.ensures Parts.Two s.0 in
     (omega (arith, c.decreases, k.2.0, s.3, c.resolve.ensures.keeps.falls), (c.requires.0, c.push_back-g.ensures.1, ((c.push_back-g.ensures.0 false).runs (both c.resolve.new.a.ok c.push_back-g.result.ok c.if-ok.true).1).small))
 
 pub append-returns-then-ok : goal.append-returns-then-ok
 append-returns-then-ok t c = let a = c.args in
     let s = begins_two c.node_at-node.result a.at a.left a.n c.start_behind-start.result c.start_behind-start.ensures c.if-start.true in
-    let k = as_parts a.image.now a.l a.at a.left c.node_at-node.result c.node_at-node.ensures Parts.Two s.0 in
+    let k = as_parts a.l.now a.at a.left c.node_at-node.result c.node_at-node.ensures Parts.Two s.0 in
     let h = c.resolve.ensures.keeps in
     let b = c.resolve.new.a in
-    let q = subst₂ (λ (n m : ℕ). Substitutes a.image.now a.l n m a.params.now b) (s.2 ∙ k.0) s.3 h.means in
+    let q = subst₂ (λ (n m : ℕ). Substitutes a.l.now n m a.params.now b) (s.2 ∙ k.0) s.3 h.means in
     let e = c.append-rest.ensures in
     record {
       falls = omega (arith, h.falls, s.3, e.falls);
       wide = e.wide;
-      means = appends_two a.image.now a.l a.at a.left a.params.now b k.2.0 k.3 q a.n _ c.section_word.ensures _ _ _ c.push_back-g.result (c.put_at.ensures.2 s.1) _ s.4 (c.push_back-g.ensures.0 false) (both c.resolve.new.a.ok c.push_back-g.result.ok c.if-ok.true).0 (both c.resolve.new.a.ok c.push_back-g.result.ok c.if-ok.true).1 (omega (arith, h.falls, s.3)) c.append-rest.result _ e.means;
+      means = appends_two a.l.now a.at a.left a.params.now b k.2.0 k.3 q a.n _ c.section_word.ensures _ _ _ c.push_back-g.result (c.put_at.ensures.2 s.1) _ s.4 (c.push_back-g.ensures.0 false) (both c.resolve.new.a.ok c.push_back-g.result.ok c.if-ok.true).0 (both c.resolve.new.a.ok c.push_back-g.result.ok c.if-ok.true).1 (omega (arith, h.falls, s.3)) c.append-rest.result _ e.means;
     }
 
 pub append-returns-else-ok : goal.append-returns-else-ok
 append-returns-else-ok t c = let a = c.args in
     let s = begins_two c.node_at-node.result a.at a.left a.n c.start_behind-start.result c.start_behind-start.ensures c.if-start.true in
-    let k = as_parts a.image.now a.l a.at a.left c.node_at-node.result c.node_at-node.ensures Parts.Two s.0 in
+    let k = as_parts a.l.now a.at a.left c.node_at-node.result c.node_at-node.ensures Parts.Two s.0 in
     let h = c.resolve.ensures.keeps in
     let b = c.resolve.new.a in
-    let q = subst₂ (λ (n m : ℕ). Substitutes a.image.now a.l n m a.params.now b) (s.2 ∙ k.0) s.3 h.means in
+    let q = subst₂ (λ (n m : ℕ). Substitutes a.l.now n m a.params.now b) (s.2 ∙ k.0) s.3 h.means in
     record {
       falls = omega (arith, h.falls, s.3);
       wide = c.push_back-g.ensures.1;
-      means = appends_two_no a.image.now a.l a.at a.left a.params.now b k.2.0 k.3 q a.n _ c.section_word.ensures _ _ _ c.push_back-g.result (c.put_at.ensures.2 s.1) _ s.4 (c.push_back-g.ensures.0 false) c.if-ok.false _ c.if-ok.false _;
+      means = appends_two_no a.l.now a.at a.left a.params.now b k.2.0 k.3 q a.n _ c.section_word.ensures _ _ _ c.push_back-g.result (c.put_at.ensures.2 s.1) _ s.4 (c.push_back-g.ensures.0 false) c.if-ok.false _ c.if-ok.false _;
     }
 
 pub append-returns-else-start : goal.append-returns-else-start
@@ -60,16 +60,16 @@ append-returns-else-start t c = let a = c.args in
     let s = begins_as_it_is c.node_at-node.result a.at a.left a.n c.start_behind-start.result c.start_behind-start.ensures c.if-start.false in
     let h = c.resolve.ensures.keeps in
     let b = c.resolve.new.a in
-    let q = subst₂ (λ (n m : ℕ). Substitutes a.image.now a.l n m a.params.now b) s.0 s.1 h.means in
+    let q = subst₂ (λ (n m : ℕ). Substitutes a.l.now n m a.params.now b) s.0 s.1 h.means in
     record {
       falls = omega (arith, h.falls, s.1);
       wide = c.push_back-g.ensures.1;
-      means = appends_whole a.image.now a.l a.at a.left a.params.now b q a.n _ s.2 _ _ _ c.push_back-g.result c.put_at.ensures.1 (c.push_back-g.ensures.0 false) _ refl refl refl refl refl;
+      means = appends_whole a.l.now a.at a.left a.params.now b q a.n _ s.2 _ _ _ c.push_back-g.result c.put_at.ensures.1 (c.push_back-g.ensures.0 false) _ refl refl refl refl refl;
     }
 
 pub expand-start_of-start-requires : goal.expand-start_of-start-requires
 expand-start_of-start-requires t c = let a = c.args in
-    λ e. (as_alias a.image.now a.l a.alias.target a.left c.node_at-node.result c.node_at-node.ensures e).2.0
+    λ e. (as_alias a.l.now a.alias.target a.left c.node_at-node.result c.node_at-node.ensures e).2.0
 
 pub expand-resolve-requires : goal.expand-resolve-requires
 expand-resolve-requires t c = (omega (arith, c.decreases, start_left c.node_at-node.result c.args.alias.target c.args.left c.start_of-start.result c.start_of-start.ensures), c.requires.0)
@@ -77,25 +77,25 @@ expand-resolve-requires t c = (omega (arith, c.decreases, start_left c.node_at-n
 pub expand-expand-requires : goal.expand-expand-requires
 expand-expand-requires t c = let a = c.args in
     let s = c.start_of-start.ensures.0 c.if-again.true in
-    let k = as_alias a.image.now a.l a.alias.target a.left c.node_at-node.result c.node_at-node.ensures c.if-again.true in
+    let k = as_alias a.l.now a.alias.target a.left c.node_at-node.result c.node_at-node.ensures c.if-again.true in
     (omega (arith, c.decreases, k.2.0, s.1, c.resolve.ensures.keeps.falls), (c.requires.0, c.resolve.ensures.wide))
 
 pub expand-returns-then-b : goal.expand-returns-then-b
 expand-returns-then-b t c = let a = c.args in
     let s = c.start_of-start.ensures.0 c.if-again.true in
-    let k = as_alias a.image.now a.l a.alias.target a.left c.node_at-node.result c.node_at-node.ensures c.if-again.true in
+    let k = as_alias a.l.now a.alias.target a.left c.node_at-node.result c.node_at-node.ensures c.if-again.true in
     let h = c.resolve.ensures.keeps in
     let b = c.resolve.new.a in
     let e = c.expand.ensures in
-    let q = subst₂ (λ (n m : ℕ). Substitutes a.image.now a.l n m c.rows-view.result.now b) (s.0 ∙ k.0) s.1 h.means in (
+    let q = subst₂ (λ (n m : ℕ). Substitutes a.l.now n m c.rows-view.result.now b) (s.0 ∙ k.0) s.1 h.means in (
       e.0,
       record {
         falls = omega (arith, h.falls, s.1, e.1.falls);
         wide = e.1.wide;
         means = λ σ o f le p x end y t z next.
-            let v = one_view a.l.names.rows _ _ c.rows-view.result.now a.alias.param.0 p.name (record { words = a.words.now; len = a.n; poison = a.poison }) t c.write_row.ensures refl c.rows-view.ensures x z in
+            let v = one_view a.l.now.names.rows _ _ c.rows-view.result.now a.alias.param.0 p.name (record { words = a.words.now; len = a.n; poison = a.poison }) t c.write_row.ensures refl c.rows-view.ensures x z in
             says_at
-            (alias_arm a.image.now a.l a.alias.target a.left c.rows-view.result.now b c.node_at-node.result.alias (λ z. omega (arith, k.2.0, z)) k.3 k.1 k.4 q c.if-b.true (omega (arith, h.falls, s.1)) (record { ok = c.expand.result.ok; next = b.next; left = c.expand.result.left; ty = record { words = c.expand.new.words; len = c.expand.result.len; poison = c.expand.result.poison } }) refl
+            (alias_arm a.l.now a.alias.target a.left c.rows-view.result.now b c.node_at-node.result.alias (λ z. omega (arith, k.2.0, z)) k.3 k.1 k.4 q c.if-b.true (omega (arith, h.falls, s.1)) (record { ok = c.expand.result.ok; next = b.next; left = c.expand.result.left; ty = record { words = c.expand.new.words; len = c.expand.result.len; poison = c.expand.result.poison } }) refl
             (λ σ o f le p x end y t z. e.1.means σ o f le p x end y t z b.next)
             σ o f le (record { name = p.name; ty = t } ∷ []) v p.ty end y)
             next _ refl refl refl refl;
@@ -105,18 +105,18 @@ expand-returns-then-b t c = let a = c.args in
 pub expand-returns-else-b : goal.expand-returns-else-b
 expand-returns-else-b t c = let a = c.args in
     let s = c.start_of-start.ensures.0 c.if-again.true in
-    let k = as_alias a.image.now a.l a.alias.target a.left c.node_at-node.result c.node_at-node.ensures c.if-again.true in
+    let k = as_alias a.l.now a.alias.target a.left c.node_at-node.result c.node_at-node.ensures c.if-again.true in
     let h = c.resolve.ensures.keeps in
     let b = c.resolve.new.a in
-    let q = subst₂ (λ (n m : ℕ). Substitutes a.image.now a.l n m c.rows-view.result.now b) s.0 s.1 h.means in (
+    let q = subst₂ (λ (n m : ℕ). Substitutes a.l.now n m c.rows-view.result.now b) s.0 s.1 h.means in (
       refl,
       record {
         falls = omega (arith, h.falls, s.1);
         wide = c.resolve.ensures.wide;
         means = λ σ o f le p x end y t z next.
-            let v = one_view a.l.names.rows _ _ c.rows-view.result.now a.alias.param.0 p.name (record { words = a.words.now; len = a.n; poison = a.poison }) t c.write_row.ensures refl c.rows-view.ensures x z in
+            let v = one_view a.l.now.names.rows _ _ c.rows-view.result.now a.alias.param.0 p.name (record { words = a.words.now; len = a.n; poison = a.poison }) t c.write_row.ensures refl c.rows-view.ensures x z in
             says_at
-            (stopped a.image.now a.l a.alias.target a.left c.rows-view.result.now b c.node_at-node.result c.node_at-node.ensures (λ z. omega (arith, k.0, z)) q c.if-b.false σ o f le (record { name = p.name; ty = t } ∷ []) v p.ty end y)
+            (stopped a.l.now a.alias.target a.left c.rows-view.result.now b c.node_at-node.result c.node_at-node.ensures (λ z. omega (arith, k.0, z)) q c.if-b.false σ o f le (record { name = p.name; ty = t } ∷ []) v p.ty end y)
             next _ refl refl refl refl;
       },
     )
@@ -126,13 +126,13 @@ expand-returns-else-again t c = let a = c.args in
     let s = c.start_of-start.ensures.1 c.if-again.false in
     let h = c.resolve.ensures.keeps in
     let b = c.resolve.new.a in
-    let q = subst₂ (λ (n m : ℕ). Substitutes a.image.now a.l n m c.rows-view.result.now b) s.0 s.1 h.means in (
+    let q = subst₂ (λ (n m : ℕ). Substitutes a.l.now n m c.rows-view.result.now b) s.0 s.1 h.means in (
       refl,
       record {
         falls = omega (arith, h.falls, s.1);
         wide = c.resolve.ensures.wide;
         means = λ σ o f le p x end y t z next.
-            let v = one_view a.l.names.rows _ _ c.rows-view.result.now a.alias.param.0 p.name (record { words = a.words.now; len = a.n; poison = a.poison }) t c.write_row.ensures refl c.rows-view.ensures x z in
+            let v = one_view a.l.now.names.rows _ _ c.rows-view.result.now a.alias.param.0 p.name (record { words = a.words.now; len = a.n; poison = a.poison }) t c.write_row.ensures refl c.rows-view.ensures x z in
             says_at (q σ o f le (record { name = p.name; ty = t } ∷ []) v p.ty end y) next _ refl refl refl refl;
       },
     )
@@ -140,24 +140,24 @@ expand-returns-else-again t c = let a = c.args in
 pub resolve-returns-then-first-eq0-clause-keeps : goal.resolve-returns-then-first-eq0-clause-keeps
 resolve-returns-then-first-eq0-clause-keeps t c = let a = c.args in
     let h = c.whole_into.ensures.keeps in
-    record { falls = h.falls; means = h.means (is_whole a.image.now a.l a.at a.left c.node_at-node.result c.node_at-node.ensures c.if-first-eq0.true) }
+    record { falls = h.falls; means = h.means (is_whole a.l.now a.at a.left c.node_at-node.result c.node_at-node.ensures c.if-first-eq0.true) }
 
 pub resolve-overflow_sub-left : goal.resolve-overflow_sub-left
 resolve-overflow_sub-left t c = let a = c.args in
-    omega (arith, (is_read a.image.now a.l a.at a.left c.node_at-node.result c.node_at-node.ensures c.if-first-eq0.false).0)
+    omega (arith, (is_read a.l.now a.at a.left c.node_at-node.result c.node_at-node.ensures c.if-first-eq0.false).0)
 
 pub resolve-resolve-requires : goal.resolve-resolve-requires
 resolve-resolve-requires t c = let a = c.args in
-    (omega (arith, c.decreases, (is_read a.image.now a.l a.at a.left c.node_at-node.result c.node_at-node.ensures c.if-first-eq0.false).0), c.requires)
+    (omega (arith, c.decreases, (is_read a.l.now a.at a.left c.node_at-node.result c.node_at-node.ensures c.if-first-eq0.false).0), c.requires)
 
 pub resolve-returns-then-not-a-clause-keeps : goal.resolve-returns-then-not-a-clause-keeps
 resolve-returns-then-not-a-clause-keeps t c = let a = c.args in
     let h = c.resolve.ensures.keeps in
-    record { falls = omega (arith, h.falls); means = stopped a.image.now a.l a.at a.left a.params.now c.resolve.new.a c.node_at-node.result c.node_at-node.ensures c.if-first-eq0.false h.means (not-true _ c.if-not-a.true-raw) }
+    record { falls = omega (arith, h.falls); means = stopped a.l.now a.at a.left a.params.now c.resolve.new.a c.node_at-node.result c.node_at-node.ensures c.if-first-eq0.false h.means (not-true _ c.if-not-a.true-raw) }
 
 pub resolve-returns-in-Whole-clause-keeps : goal.resolve-returns-in-Whole-clause-keeps
 resolve-returns-in-Whole-clause-keeps t c = let a = c.args in
-    absurd (c.if-first-eq0.false (as_parts a.image.now a.l a.at a.left c.node_at-node.result c.node_at-node.ensures Parts.Whole c.in-Whole.is).0)
+    absurd (c.if-first-eq0.false (as_parts a.l.now a.at a.left c.node_at-node.result c.node_at-node.ensures Parts.Whole c.in-Whole.is).0)
 
 pub resolve-push_front-g-requires : goal.resolve-push_front-g-requires
 resolve-push_front-g-requires t c = c.resolve.ensures.wide
@@ -166,24 +166,24 @@ pub resolve-returns-in-One-clause-keeps : goal.resolve-returns-in-One-clause-kee
 resolve-returns-in-One-clause-keeps t c = let a = c.args in
     let h = c.resolve.ensures.keeps in
     let b = c.resolve.new.a in
-    let k = as_parts a.image.now a.l a.at a.left c.node_at-node.result c.node_at-node.ensures Parts.One c.in-One.is in
-    let q = subst (λ (n : ℕ). Substitutes a.image.now a.l n (a.left - 1) a.params.now b) k.0 h.means in
+    let k = as_parts a.l.now a.at a.left c.node_at-node.result c.node_at-node.ensures Parts.One c.in-One.is in
+    let q = subst (λ (n : ℕ). Substitutes a.l.now n (a.left - 1) a.params.now b) k.0 h.means in
     record {
       falls = omega (arith, h.falls);
-      means = one_arm a.image.now a.l a.at a.left a.params.now b (not-false _ c.if-not-a.false-raw) _ c.push_front-g.result (λ z. omega (arith, k.2.0, z)) k.3 q _ c.section_word-code.ensures (c.push_front-g.ensures.0 b.ty.poison);
+      means = one_arm a.l.now a.at a.left a.params.now b (not-false _ c.if-not-a.false-raw) _ c.push_front-g.result (λ z. omega (arith, k.2.0, z)) k.3 q _ c.section_word-code.ensures (c.push_front-g.ensures.0 b.ty.poison);
     }
 
 pub resolve-overflow_add-at : goal.resolve-overflow_add-at
 resolve-overflow_add-at t c = let a = c.args in
-    search (rules, (as_parts a.image.now a.l a.at a.left c.node_at-node.result c.node_at-node.ensures Parts.Fixed c.in-Fixed.is).2.1, c.requires.inside.small, c.requires.inside.pool)
+    search (rules, (as_parts a.l.now a.at a.left c.node_at-node.result c.node_at-node.ensures Parts.Fixed c.in-Fixed.is).2.1, c.requires.inside.small, c.requires.inside.pool)
 
 pub resolve-overflow_add-at-in-Fixed : goal.resolve-overflow_add-at-in-Fixed
 resolve-overflow_add-at-in-Fixed t c = let a = c.args in
-    search (rules, (as_parts a.image.now a.l a.at a.left c.node_at-node.result c.node_at-node.ensures Parts.Fixed c.in-Fixed.is).2.1, c.requires.inside.small, c.requires.inside.pool)
+    search (rules, (as_parts a.l.now a.at a.left c.node_at-node.result c.node_at-node.ensures Parts.Fixed c.in-Fixed.is).2.1, c.requires.inside.small, c.requires.inside.pool)
 
 pub resolve-overflow_add-at-in-Fixed-2 : goal.resolve-overflow_add-at-in-Fixed-2
 resolve-overflow_add-at-in-Fixed-2 t c = let a = c.args in
-    search (rules, (as_parts a.image.now a.l a.at a.left c.node_at-node.result c.node_at-node.ensures Parts.Fixed c.in-Fixed.is).2.1, c.requires.inside.small, c.requires.inside.pool)
+    search (rules, (as_parts a.l.now a.at a.left c.node_at-node.result c.node_at-node.ensures Parts.Fixed c.in-Fixed.is).2.1, c.requires.inside.small, c.requires.inside.pool)
 
 pub resolve-section_word-high-requires : goal.resolve-section_word-high-requires
 resolve-section_word-high-requires t c = search (rules, c.requires.inside)
@@ -195,11 +195,11 @@ pub resolve-returns-in-Fixed-clause-keeps : goal.resolve-returns-in-Fixed-clause
 resolve-returns-in-Fixed-clause-keeps t c = let a = c.args in
     let h = c.resolve.ensures.keeps in
     let b = c.resolve.new.a in
-    let k = as_parts a.image.now a.l a.at a.left c.node_at-node.result c.node_at-node.ensures Parts.Fixed c.in-Fixed.is in
-    let q = subst (λ (n : ℕ). Substitutes a.image.now a.l n (a.left - 1) a.params.now b) k.0 h.means in
+    let k = as_parts a.l.now a.at a.left c.node_at-node.result c.node_at-node.ensures Parts.Fixed c.in-Fixed.is in
+    let q = subst (λ (n : ℕ). Substitutes a.l.now n (a.left - 1) a.params.now b) k.0 h.means in
     record {
       falls = omega (arith, h.falls);
-      means = fixed_arm a.image.now a.l a.at a.left a.params.now b (not-false _ c.if-not-a.false-raw) _ c.push_fixed-g.result (λ z. omega (arith, k.2.0, z)) k.3 q _ _ c.section_word-low.ensures c.section_word-high.ensures (c.push_fixed-g.ensures.0 b.ty.poison);
+      means = fixed_arm a.l.now a.at a.left a.params.now b (not-false _ c.if-not-a.false-raw) _ c.push_fixed-g.result (λ z. omega (arith, k.2.0, z)) k.3 q _ _ c.section_word-low.ensures c.section_word-high.ensures (c.push_fixed-g.ensures.0 b.ty.poison);
     }
 
 pub resolve-push_front-g-requires-in-Two : goal.resolve-push_front-g-requires-in-Two
@@ -209,16 +209,16 @@ pub resolve-returns-then-not-g-clause-keeps : goal.resolve-returns-then-not-g-cl
 resolve-returns-then-not-g-clause-keeps t c = let a = c.args in
     let h = c.resolve.ensures.keeps in
     let b = c.resolve.new.a in
-    let k = as_parts a.image.now a.l a.at a.left c.node_at-node.result c.node_at-node.ensures Parts.Two c.in-Two.is in
-    let q = subst (λ (n : ℕ). Substitutes a.image.now a.l n (a.left - 1) a.params.now b) k.0 h.means in
+    let k = as_parts a.l.now a.at a.left c.node_at-node.result c.node_at-node.ensures Parts.Two c.in-Two.is in
+    let q = subst (λ (n : ℕ). Substitutes a.l.now n (a.left - 1) a.params.now b) k.0 h.means in
     record {
       falls = omega (arith, h.falls);
-      means = two_full a.image.now a.l a.at a.left a.params.now b (not-false _ c.if-not-a.false-raw) _ c.push_front-g-in-Two.result (λ z. omega (arith, k.2.0, z)) k.3 q _ (c.push_front-g-in-Two.ensures.0 false) (not-true _ c.if-not-g.true) _ refl;
+      means = two_full a.l.now a.at a.left a.params.now b (not-false _ c.if-not-a.false-raw) _ c.push_front-g-in-Two.result (λ z. omega (arith, k.2.0, z)) k.3 q _ (c.push_front-g-in-Two.ensures.0 false) (not-true _ c.if-not-g.true) _ refl;
     }
 
 pub resolve-append-e-requires : goal.resolve-append-e-requires
 resolve-append-e-requires t c = let a = c.args in
-    let k = as_parts a.image.now a.l a.at a.left c.node_at-node.result c.node_at-node.ensures Parts.Two c.in-Two.is in
+    let k = as_parts a.l.now a.at a.left c.node_at-node.result c.node_at-node.ensures Parts.Two c.in-Two.is in
     (omega (arith, c.decreases, k.2.0, c.resolve.ensures.keeps.falls), (c.requires, c.push_front-g-in-Two.ensures.1, ((c.push_front-g-in-Two.ensures.0 false).runs (not-false _ c.if-not-g.false)).small))
 
 pub resolve-returns-in-Two-clause-keeps : goal.resolve-returns-in-Two-clause-keeps
@@ -226,16 +226,16 @@ resolve-returns-in-Two-clause-keeps t c = let a = c.args in
     let h = c.resolve.ensures.keeps in
     let b = c.resolve.new.a in
     let e = c.append-e.ensures in
-    let k = as_parts a.image.now a.l a.at a.left c.node_at-node.result c.node_at-node.ensures Parts.Two c.in-Two.is in
-    let q = subst (λ (n : ℕ). Substitutes a.image.now a.l n (a.left - 1) a.params.now b) k.0 h.means in
+    let k = as_parts a.l.now a.at a.left c.node_at-node.result c.node_at-node.ensures Parts.Two c.in-Two.is in
+    let q = subst (λ (n : ℕ). Substitutes a.l.now n (a.left - 1) a.params.now b) k.0 h.means in
     record {
       falls = omega (arith, h.falls, e.falls);
-      means = two_arm a.image.now a.l a.at a.left a.params.now b (not-false _ c.if-not-a.false-raw) _ c.push_front-g-in-Two.result (λ z. omega (arith, k.2.0, z)) k.3 q _ c.section_word-code-in-Two.ensures (c.push_front-g-in-Two.ensures.0 false) (not-false _ c.if-not-g.false) c.append-e.result _ e.means h.falls;
+      means = two_arm a.l.now a.at a.left a.params.now b (not-false _ c.if-not-a.false-raw) _ c.push_front-g-in-Two.result (λ z. omega (arith, k.2.0, z)) k.3 q _ c.section_word-code-in-Two.ensures (c.push_front-g-in-Two.ensures.0 false) (not-false _ c.if-not-g.false) c.append-e.result _ e.means h.falls;
     }
 
 pub resolve-expand-e-requires : goal.resolve-expand-e-requires
 resolve-expand-e-requires t c = let a = c.args in
-    let k = as_parts a.image.now a.l a.at a.left c.node_at-node.result c.node_at-node.ensures Parts.Alias c.in-Alias.is in
+    let k = as_parts a.l.now a.at a.left c.node_at-node.result c.node_at-node.ensures Parts.Alias c.in-Alias.is in
     (omega (arith, c.decreases, k.2.0, c.resolve.ensures.keeps.falls), (c.requires, c.resolve.ensures.wide))
 
 pub resolve-returns-in-Alias-clause-keeps : goal.resolve-returns-in-Alias-clause-keeps
@@ -243,9 +243,9 @@ resolve-returns-in-Alias-clause-keeps t c = let a = c.args in
     let h = c.resolve.ensures.keeps in
     let b = c.resolve.new.a in
     let e = c.expand-e.ensures in
-    let k = as_parts a.image.now a.l a.at a.left c.node_at-node.result c.node_at-node.ensures Parts.Alias c.in-Alias.is in
-    let q = subst (λ (n : ℕ). Substitutes a.image.now a.l n (a.left - 1) a.params.now b) k.0 h.means in
+    let k = as_parts a.l.now a.at a.left c.node_at-node.result c.node_at-node.ensures Parts.Alias c.in-Alias.is in
+    let q = subst (λ (n : ℕ). Substitutes a.l.now n (a.left - 1) a.params.now b) k.0 h.means in
     record {
       falls = omega (arith, h.falls, e.1.falls);
-      means = alias_arm a.image.now a.l a.at a.left a.params.now b c.node_at-node.result.alias (λ z. omega (arith, k.2.0, z)) k.3 k.1 k.4 q (not-false _ c.if-not-a.false-raw) h.falls _ refl (λ σ o f le p x end y t z. e.1.means σ o f le p x end y t z b.next);
+      means = alias_arm a.l.now a.at a.left a.params.now b c.node_at-node.result.alias (λ z. omega (arith, k.2.0, z)) k.3 k.1 k.4 q (not-false _ c.if-not-a.false-raw) h.falls _ refl (λ σ o f le p x end y t z. e.1.means σ o f le p x end y t z b.next);
     }

@@ -8,9 +8,9 @@ use Rattle.subst_names.proofs.generic.one_parameter.Goals as goal
 pub returns-then-section_word-ne1 : goal.returns-then-section_word-ne1
 returns-then-section_word-ne1 c g h =
     let a = c.args in
-    subst (IsAlias a.l.names.rows (pool_words a.image.now a.l) c.none.result) (sym (not_one a.l.names.rows (pool_words a.image.now a.l) a.start g h (λ e. c.if-section_word-ne1.true (c.section_word.ensures ∙ e)))) c.none.ensures
+    subst (IsAlias a.l.now.names.rows (pool_words a.l.now) c.none.result) (sym (not_one a.l.now.names.rows (pool_words a.l.now) a.start g h (λ e. c.if-section_word-ne1.true (c.section_word.ensures ∙ e)))) c.none.ensures
 
 pub returns : goal.returns
 returns c g h =
     let a = c.args in
-    is_one a.l.names.rows (pool_words a.image.now a.l) a.start g h (sym c.section_word.ensures ∙ c.if-section_word-ne1.false) _ refl c.section_word-2.ensures refl
+    is_one a.l.now.names.rows (pool_words a.l.now) a.start g h (sym c.section_word.ensures ∙ c.if-section_word-ne1.false) _ refl c.section_word-2.ensures refl

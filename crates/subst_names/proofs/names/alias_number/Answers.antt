@@ -13,18 +13,18 @@ pub returns-then-start-eq-NOWHERE : goal.returns-then-start-eq-NOWHERE
 unfolding or
 returns-then-start-eq-NOWHERE c o h =
     let a = c.args in
-    sym (ap (λ (q : Option ℕ). or q NONE) (no_alias a.l.names.rows (pool_words a.image.now a.l) a.start number o h c.if-start-eq-NOWHERE.true))
+    sym (ap (λ (q : Option ℕ). or q NONE) (no_alias a.l.now.names.rows (pool_words a.l.now) a.start number o h c.if-start-eq-NOWHERE.true))
 
 pub returns-then-section_word-ne-NAMED : goal.returns-then-section_word-ne-NAMED
 unfolding or
 returns-then-section_word-ne-NAMED c o h =
     let a = c.args in
-    let ws = pool_words a.image.now a.l in
-    sym (ap (λ (q : Option ℕ). or q NONE) (some_alias a.l.names.rows ws a.start number none o h c.if-start-eq-NOWHERE.false (λ t n s g. other_type a.l.names.rows ws a.start n t s (λ e. c.if-section_word-ne-NAMED.true (c.section_word.ensures ∙ e)))))
+    let ws = pool_words a.l.now in
+    sym (ap (λ (q : Option ℕ). or q NONE) (some_alias a.l.now.names.rows ws a.start number none o h c.if-start-eq-NOWHERE.false (λ t n s g. other_type a.l.now.names.rows ws a.start n t s (λ e. c.if-section_word-ne-NAMED.true (c.section_word.ensures ∙ e)))))
 
 pub returns : goal.returns
 unfolding or
 returns c o h =
     let a = c.args in
-    let ws = pool_words a.image.now a.l in
-    c.section_word-2.ensures ∙ sym (ap (λ (q : Option ℕ). or q NONE) (some_alias a.l.names.rows ws a.start number (some _) o h c.if-start-eq-NOWHERE.false (λ t n s g. named_type a.l.names.rows ws a.start n t s g (sym c.section_word.ensures ∙ c.if-section_word-ne-NAMED.false))))
+    let ws = pool_words a.l.now in
+    c.section_word-2.ensures ∙ sym (ap (λ (q : Option ℕ). or q NONE) (some_alias a.l.now.names.rows ws a.start number (some _) o h c.if-start-eq-NOWHERE.false (λ t n s g. named_type a.l.now.names.rows ws a.start n t s g (sym c.section_word.ensures ∙ c.if-section_word-ne-NAMED.false))))

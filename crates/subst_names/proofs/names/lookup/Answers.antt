@@ -21,5 +21,5 @@ returns c s o h =
     let a = c.args in
     let n = row o a.x.0 h in
     let e = c.name_row-row.ensures in
-    c.alias_number.ensures n.0.alias (subst (λ (k : ℕ). AliasStands a.l.names.rows (pool_words a.image.now a.l) k n.0.alias) (sym e.alias) n.2.alias)
+    c.alias_number.ensures n.0.alias (subst (λ (k : ℕ). AliasStands a.l.now.names.rows (pool_words a.l.now) k n.0.alias) (sym e.alias) n.2.alias)
     ∙ sym (ap (λ (q : Option ℕ). or q NONE) (named_alias o a.x.0 h (sym e.definition ∙ c.if-d.false)))
