@@ -1,5 +1,5 @@
 // Expressions: each node says how many words it has and how many parts stand behind them.
-ghost use Rattle.std.specs.Prelude.{◌≡◌, ℕ, ◌<◌};
+ghost use Rattle.std.specs.Prelude.{◌≡◌, ℕ, ◌<◌, length};
 ghost use Rattle.rules.specs.Syntax.{Expr};
 ghost use Rattle.image_words.specs.Verdict.{section_words};
 ghost use Rattle.pool_expressions.specs.ExprAt.{ExprAt};
@@ -39,13 +39,14 @@ fn expr_node(pool: &[u8], at: usize, k: ExprKind) -> Node
 pub fn skip_exprs(pool: &[u8], at: usize, count: u32) -> usize
     ensures { (names strings n : ℕ) → Pending (ExprAt names strings (section_words pool.now)) count at n → result ≡ n }
 {
+    let len = image_words::count(pool);
     let mut pending = count as usize;
     let mut next = at;
     while 0 < pending {
-        if image_words::count(pool) <= next {
+        if len <= next {
             return next;
         }
-        if image_words::count(pool) < pending {
+        if len < pending {
             return next;
         }
         let k = codes::expr_kind(image_words::section_word(pool, next));

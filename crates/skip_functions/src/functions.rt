@@ -9,7 +9,6 @@ ghost use Rattle.pool_definitions.specs.DefinitionAt.{FunctionAt};
 ghost use Rattle.skip_types.specs.Pending.{Pending};
 ghost use Rattle.skip_functions.specs.Clauses.{SkipsParams, SkipsExprParams};
 
-
 // The place behind so many names, each with a type expression.
 fn skip_named(pool: &[u8], at: usize, count: u32) -> usize
     ensures { (names n : ℕ) → Pending (ParamAt names (section_words pool.now) (TypeExprAt names (section_words pool.now))) count at n → result ≡ n }

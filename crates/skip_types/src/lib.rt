@@ -1,7 +1,7 @@
 // The place behind types and type expressions, by counting: on an image that is known to be readable no word is tested again.
 #![tactic(auto)]
 
-ghost use Rattle.std.specs.Prelude.{◌≡◌, ℕ, ◌+◌, ◌<◌, get_or};
+ghost use Rattle.std.specs.Prelude.{◌≡◌, ℕ, ◌+◌, ◌<◌, get_or, length};
 ghost use Rattle.rules.specs.Syntax.{ResolvedType, TypeExpr};
 ghost use Rattle.image_words.specs.Verdict.{section_words};
 ghost use Rattle.pool_types.specs.TypeAt.{TypeAt};
@@ -45,10 +45,11 @@ fn type_node(pool: &[u8], at: usize, k: TypeKind) -> Node
 pub fn skip_types(pool: &[u8], at: usize, count: u32) -> usize
     ensures { (names n : ℕ) → Pending (TypeExprAt names (section_words pool.now)) count at n → result ≡ n }
 {
+    let len = image_words::count(pool);
     let mut pending = count as usize;
     let mut next = at;
     while 0 < pending {
-        if image_words::count(pool) <= next {
+        if len <= next {
             return next;
         }
         let k = codes::type_kind(image_words::section_word(pool, next));

@@ -70,12 +70,7 @@ pub fn put_words(
     let mut from = at;
     let mut next = to;
     while i < count {
-        next = put(
-            out,
-            limit,
-            next,
-            image_words::section_word(pool, from),
-        );
+        next = put(out, limit, next, image_words::section_word(pool, from));
         from = image_words::after(pool, from);
         i += 1;
     }

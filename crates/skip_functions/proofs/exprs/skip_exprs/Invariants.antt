@@ -1,5 +1,6 @@
 -- `skip_functions::exprs::skip_exprs` meets its contract. The loop's invariant: what is pending ends where the whole does. Assumes nothing.
 use Prim.Native.Nat.{ℕ, ◌-◌}
+use lib.ListN.{length}
 use Rattle.image_words.specs.Verdict.{section_words}
 use Rattle.pool_expressions.specs.ExprAt.{ExprAt}
 use Rattle.skip_types.specs.Pending.{Pending}

@@ -5,5 +5,5 @@ use Rattle.pool_expressions.specs.ExprAt.{ExprStands}
 use Rattle.skip_types.proofs.Maybe.{maybe_inside}
 use Rattle.skip_functions.proofs.exprs.skip_maybe_expr.Goals as goal
 
-pub returns-then-pool-at : goal.returns-then-pool-at
-returns-then-pool-at c = λ names strings o n h. absurd (omega (arith, maybe_inside (section_words c.args.pool.now) (ExprStands names strings (section_words c.args.pool.now)) o _ n h, c.if-pool-at.true))
+pub returns-then-count-at : goal.returns-then-count-at
+returns-then-count-at c = λ names strings o n h. absurd (omega (arith, maybe_inside (section_words c.args.pool.now) (ExprStands names strings (section_words c.args.pool.now)) o _ n h, c.if-count-at.true, c.count.ensures))

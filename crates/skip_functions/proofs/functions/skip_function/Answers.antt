@@ -4,8 +4,8 @@ use Rattle.skip_functions.proofs.StatementsLaws.{body_from}
 use Rattle.skip_functions.proofs.FunctionsLaws.{maybe_from}
 use Rattle.skip_functions.proofs.functions.skip_function.Goals as goal
 
-pub returns-then-pool-at : goal.returns-then-pool-at
-returns-then-pool-at c = λ names strings f n h. absurd (omega (arith, h.name_at.inside, c.if-pool-at.true))
+pub returns-then-count-at : goal.returns-then-count-at
+returns-then-count-at c = λ names strings f n h. absurd (omega (arith, h.name_at.inside, c.if-count-at.true, c.count.ensures))
 
 pub returns : goal.returns
 returns c =
