@@ -95,8 +95,8 @@ module _ {c : Call} (s : CompiledSchema) (i : ImplDef) (t : TraitDef) where
 -- what is accepted has few words
 pub few : (c : Call) {l : Layout} {s : CompiledSchema} → Open l s → (row : ℕ) → Few (call_of c row s)
 unfolding call_of
-few Call.Signatures {image} {l} {s} o row v ws q = omega (arith, (signatures_bound s o.read row v ws q).1)
-few Call.Projection {image} {l} {s} o row v ws q = omega (arith, (project_bound s o.read row v ws q).1)
+few Call.Signatures {l} {s} o row v ws q = omega (arith, (signatures_bound l.image.now s o.read row v ws q).1)
+few Call.Projection {l} {s} o row v ws q = omega (arith, (project_bound l.image.now s o.read row v ws q).1)
 
 pub few_behind : (c : Call) {l : Layout} {s : CompiledSchema} → Open l s → (row : ℕ) {r : Result (ℕ × List ℕ)} → call_of c row s ≡ r → Few r
 few_behind c o row e v ws q = few c o row v ws (e ∙ q)

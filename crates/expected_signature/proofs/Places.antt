@@ -18,7 +18,7 @@ use Rattle.subst.specs.declared.whole.Substituted.{Substituted}
 use Rattle.subst.specs.Answers.{Answers}
 
 pub pool_small : {l : Layout} → Inside l → {at : ℕ} → at < length (pool_words l) → at < 65536
-pool_small i h = omega (arith, i.pool.fits, i.small)
+pool_small i h = omega (arith, i.pool)
 
 pub expr_here : {names : ℕ} {ws : List ℕ} {e : TypeExpr} {at n : ℕ} → TypeExprStands names ws e at n → ExprStands names ws e at n
 expr_here h = record { run_at = h.words_at; stored = h.good }

@@ -8,13 +8,7 @@ use crate::part::Part;
 use image_layout::Layout;
 
 // A name, and its type substituted.
-pub fn resolve_param(
-    l: &Layout,
-    at: usize,
-    params: &[u32],
-    out: &mut [u8],
-    to: usize,
-) -> Part
+pub fn resolve_param(l: &Layout, at: usize, params: &[u32], out: &mut [u8], to: usize) -> Part
     requires { Cut l.now × ParamHere l.now params.now at × (to ≤ 800000000) }
     ensures { ResolvesParam l.now at params.now out.old out.new to result }
 {
@@ -36,13 +30,7 @@ pub fn resolve_param(
 }
 
 // Their count, and each one.
-pub fn resolve_params(
-    l: &Layout,
-    at: usize,
-    params: &[u32],
-    out: &mut [u8],
-    to: usize,
-) -> Part
+pub fn resolve_params(l: &Layout, at: usize, params: &[u32], out: &mut [u8], to: usize) -> Part
     requires { Cut l.now × ParamsHere l.now params.now at × (to ≤ 700000000) }
     ensures { ResolvesParams l.now at params.now out.old out.new to result }
 {

@@ -41,13 +41,7 @@ fn put_return(out: &mut [u8], to: usize, t: MaybeType, next: usize, visits: u32)
 }
 
 // 0 none, 1 a resolved type, which takes no visit, 2 a type expression.
-pub fn resolve_return(
-    l: &Layout,
-    at: usize,
-    params: &[u32],
-    out: &mut [u8],
-    to: usize,
-) -> Part
+pub fn resolve_return(l: &Layout, at: usize, params: &[u32], out: &mut [u8], to: usize) -> Part
     requires { Cut l.now × ReturnHere l.now params.now at × (to ≤ 800000000) }
     ensures { ResolvesReturn l.now at params.now out.old out.new to result }
 {

@@ -8,13 +8,7 @@ use crate::part::Part;
 use image_layout::Layout;
 
 // A name, the parameters and the return.
-pub fn resolve_signature(
-    l: &Layout,
-    at: usize,
-    params: &[u32],
-    out: &mut [u8],
-    to: usize,
-) -> Part
+pub fn resolve_signature(l: &Layout, at: usize, params: &[u32], out: &mut [u8], to: usize) -> Part
     requires { Cut l.now × FunctionHere l.now params.now at × (to ≤ 600000000) }
     ensures { ResolvesSignature l.now at params.now out.old out.new to result }
 {

@@ -11,12 +11,7 @@ use answers::answer::Outcome;
 use image_layout::Layout;
 
 // Of the functions at these places, with their names beside. Both are asked, and then their order tells.
-pub fn check_names(
-    l: &Layout,
-    trait_at: usize,
-    places: &[usize],
-    names: &[u32],
-) -> Outcome
+pub fn check_names(l: &Layout, trait_at: usize, places: &[usize], names: &[u32]) -> Outcome
     requires { Inside l.now }
     ensures { TellsNames l.now trait_at places.now names.now result }
 {

@@ -99,4 +99,4 @@ module _ {l : Layout} {found : Result (ImplDef × TraitDef)} {r : Subject} (f : 
 
 -- what was found, with the schema that the image opens
 abbrev pub about : {l : Layout} {s : CompiledSchema} → Open l s → {found : Result (ImplDef × TraitDef)} {r : Subject} → HasBoth l found r → About l r
-about {image} {l} {s} o h = record { schema = s; opened = o; impl = h.impl; trait = h.trait; stand = h.stand }
+about {l} {s} o h = record { schema = s; opened = o; impl = h.impl; trait = h.trait; stand = h.stand }

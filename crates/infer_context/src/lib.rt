@@ -92,11 +92,7 @@ fn field_hint(l: &Layout, ctx: Context, at: usize) -> MaybeType
 {
     let k = place_kind(kind_at(l, first_part(l, at)));
     match k {
-        PlaceKind::Own => message_fields::field_type(
-            l,
-            ctx.fields,
-            NameId(operand(l, at)),
-        ),
+        PlaceKind::Own => message_fields::field_type(l, ctx.fields, NameId(operand(l, at))),
         PlaceKind::Local => MaybeType::none(),
         PlaceKind::Field => MaybeType::none(),
         PlaceKind::Nowhere => MaybeType::none(),

@@ -126,9 +126,7 @@ pub fn infer_leaf(
         ExprKind::Local | ExprKind::SelfRef => infer_place(
             l, ctx, names, words, lens, at, expected, context, 16,
         ),
-        ExprKind::FieldAccess => infer_place(
-            l, ctx, names, words, lens, at, expected, context, 17,
-        ),
+        ExprKind::FieldAccess => infer_place(l, ctx, names, words, lens, at, expected, context, 17),
         ExprKind::Call => refused(13, NameId(infer_context::operand(l, at))),
         ExprKind::TraitMethodCall => refused(14, method_name(l, at)),
         ExprKind::Binary | ExprKind::Unary | ExprKind::Unknown => accepted(HeldType::empty()),

@@ -74,7 +74,7 @@ wanted a k = let s = words_ok (expected_functions a.schema a.trait a.impl) k.is 
 pub stand : {l : Layout} {impl : ImplDef} {message : MessageDef} {functions : ℕ} {parts : Parts} → Behind l impl message functions parts.fields parts.target
     → {k : ℕ} → k ≡ functions → {table : List ℕ} → ((fs : List ImplFnDef) (n : ℕ) → FunctionsHere l fs k n → Placed l fs (take (length fs) table))
     → {x count : ℕ} → x ≡ get_or (pool_words l) k 0 → (x ≤ 64 → count ≡ x) → Stand l (take count table) parts impl message
-stand {image} {l} {impl} b {k} e {table} placed {x} {count} is few =
+stand {l} {impl} b {k} e {table} placed {x} {count} is few =
     let here = subst (λ (j : ℕ). FunctionsHere l impl.functions j b.functions_end) (sym e) b.functions_at in
     let many : x ≡ length impl.functions = is ∙ here.0.is in
     record {

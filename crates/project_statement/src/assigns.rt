@@ -36,9 +36,7 @@ pub fn assigned_field(l: &Layout, at: usize) -> Assigned
     if image_words::section_word(pool, at) != ExprTag::FIELD_ACCESS {
         return Assigned { ok: false, field };
     }
-    if image_words::section_word(pool, infer_context::first_part(l, at))
-        != ExprTag::SELF_REF
-    {
+    if image_words::section_word(pool, infer_context::first_part(l, at)) != ExprTag::SELF_REF {
         return Assigned { ok: false, field };
     }
     Assigned { ok: true, field }

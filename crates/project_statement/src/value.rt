@@ -26,15 +26,11 @@ pub fn project_value(
     requires { Inside l.now × (limit ≤ length out.old) }
     ensures { ProjectsValue l.now ctx names.now words.now lens.now at expected context out.old out.new limit to result }
 {
-    let r = infer_expr::infer_expr(
-        l, ctx, names, words, lens, at, NESTING, expected, context,
-    );
+    let r = infer_expr::infer_expr(l, ctx, names, words, lens, at, NESTING, expected, context);
     if r.number != 0 {
         return project_outcome::refuse_value(ctx.function, r);
     }
     let ty = r.ty;
-    let next = write_expr::write_expr(
-        l, ctx, names, words, lens, at, NESTING, ty, out, limit, to,
-    );
+    let next = write_expr::write_expr(l, ctx, names, words, lens, at, NESTING, ty, out, limit, to);
     answers::answer::accepted(next, 0)
 }

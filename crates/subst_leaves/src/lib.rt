@@ -5,6 +5,7 @@ ghost use Rattle.std.specs.Prelude.{◌<◌, ◌≡◌, false, length};
 ghost use Rattle.image_layout.specs.Rows.{Inside, Cut};
 ghost use Rattle.subst_leaves.specs.Says.{Keeps};
 ghost use Rattle.subst_leaves.specs.Nodes.{Leaves, Names, Qualifieds, Poisons};
+ghost use Rattle.image_layout.specs.Open.{pool_words};
 
 use image_layout::Layout;
 use rules::ids::{NameId, TypeId};

@@ -14,11 +14,12 @@ use Rattle.rules.specs.Types.{POISON}
 use Rattle.rules.specs.Substitute.{lookup_qualified, number, primitive, definition_of, find_param, lookup, lookup_primitive_alias, named_or_poison, resolve_name}
 use Rattle.words.specs.Words.{word_at}
 use Rattle.image_words.specs.Verdict.{section_words}
-use Rattle.image_words.proofs.Sections.{section_at}
+use Rattle.image_words.proofs.Sections.{section_at, length_section}
 use Rattle.image_words.proofs.Steps.{true_false}
 use Rattle.image_layout.specs.declared.Layout.{Layout}
 use Rattle.image_layout.specs.Rows.{Cut, row_word}
 use Rattle.image_layout.specs.Open.{Open, NameStands}
+use Rattle.image_layout.proofs.Words.{part_word}
 use Rattle.type_words.specs.declared.MaybeType.{MaybeType}
 use Rattle.type_words.specs.Holds.{Holds, MaybeHolds}
 use Rattle.image_texts.specs.Rows.{row_text, find_row, qualified_text}
@@ -112,35 +113,36 @@ module _ (s : CompiledSchema) where
 
 -- the texts of the rows are the names'
 module _ {l : Layout} (cut : Cut l) (i : ℕ) (inside : i < l.names.rows) where
-  word_is : (k : ℕ) → k < 4 → row_word l.names i k ≡ word_at image (l.names.words.start + (16 * i + 4 * k))
+  word_is : (k : ℕ) → k < 4 → row_word l.names i k ≡ word_at l.image.now (l.texts + (16 * i + 4 * k))
   unfolding row_word
   word_is k h =
       let w : l.names.width ≡ 4 = cut.names in
-      let f = cut.inside.names in
-      let size : l.names.words.len ≡ 4 * l.names.rows = f.whole ∙ ap (λ (n : ℕ). n * l.names.rows) w in
+      let size : length (section_words l.names.words.now) ≡ 4 * l.names.rows = cut.inside.names.whole ∙ ap (λ (n : ℕ). n * l.names.rows) w in
       let g : ℕ = get_or (section_words l.names.words.now) (l.names.width * i + k) 0 in
       ap₂ (λ (a b : Bool). cond (a && b) g 0) (lt-ltb i l.names.rows inside) (lt-ltb k l.names.width (omega arith))
       ∙ ap (λ (n : ℕ). get_or (section_words l.names.words.now) (n * i + k) 0) w
-      ∙ sym (section_at f.lies (4 * i + k) (omega arith))
-      ∙ ap (word_at image) (omega arith)
+      ∙ sym (section_at l.names.words.now (4 * i + k) (omega (arith, size, length_section l.names.words.now)))
+      ∙ ap (λ (xs : List ℕ). word_at xs (4 * (4 * i + k))) cut.texts
+      ∙ part_word l.image.now l.texts (16 * l.names.rows) (4 * (4 * i + k)) (omega arith)
+      ∙ ap (word_at l.image.now) (omega arith)
 
-  pub text_is : take (row_word l.names i 1) (drop (row_word l.names i 0) image) ≡ row_text l.names.words.start i
+  pub text_is : take (row_word l.names i 1) (drop (row_word l.names i 0) l.image.now) ≡ row_text l.image.now l.texts i
   unfolding row_text
   text_is =
-      ap₂ (λ (a b : ℕ). take a (drop b image))
-      (word_is 1 (omega arith) ∙ ap (word_at image) (omega arith))
-      (word_is 0 (omega arith) ∙ ap (word_at image) (omega arith))
+      ap₂ (λ (a b : ℕ). take a (drop b l.image.now))
+      (word_is 1 (omega arith) ∙ ap (word_at l.image.now) (omega arith))
+      (word_is 0 (omega arith) ∙ ap (word_at l.image.now) (omega arith))
 
-pub in_rows : {l : Layout} {s : CompiledSchema} → Cut l → Open l s → InRows l.names.words.start s.names
-in_rows {image} {l} {s} cut o i n e = let h : i < l.names.rows = omega (arith, some_inside s.names i n e, o.names) in (o.name i n e).text ∙ text_is cut i h
+pub in_rows : {l : Layout} {s : CompiledSchema} → Cut l → Open l s → InRows l.image.now l.texts s.names
+in_rows {l} {s} cut o i n e = let h : i < l.names.rows = omega (arith, some_inside s.names i n e, o.names) in (o.name i n e).text ∙ text_is cut i h
 
 -- a qualified name's definition is that of the row with its text
 pub qualified_at : {l : Layout} {s : CompiledSchema} → Cut l → Open l s → (q x : ℕ) → q < l.names.rows → x < l.names.rows → (row : ℕ)
-    → row ≡ find_row l.names.words.start l.names.rows (qualified_text l.names.words.start q x) → lookup_qualified s q x ≡ lookup s row
-qualified_at {image} {l} {s} cut o q x i j row e =
+    → row ≡ find_row l.image.now l.texts l.names.rows (qualified_text l.image.now l.texts q x) → lookup_qualified s q x ≡ lookup s row
+qualified_at {l} {s} cut o q x i j row e =
     let few : length s.names ≤ NONE = omega (arith, o.names, o.inside.few_names) in
-    qualified_rule l.names.words.start s (in_rows cut o) few q x (omega (arith, o.names)) (omega (arith, o.names))
-    ∙ ap (λ (n : ℕ). lookup s (find_row l.names.words.start n (qualified_text l.names.words.start q x))) o.names
+    qualified_rule l.image.now l.texts s (in_rows cut o) few q x (omega (arith, o.names)) (omega (arith, o.names))
+    ∙ ap (λ (n : ℕ). lookup s (find_row l.image.now l.texts n (qualified_text l.image.now l.texts q x))) o.names
     ∙ ap (lookup s) (sym e)
 
 -- and its type, by that row

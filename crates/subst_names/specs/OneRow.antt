@@ -10,4 +10,4 @@ use Rattle.image_layout.specs.Open.{Open}
 abbrev pub OneRow : Type 0
 OneRow =
     (l : Layout) (s : CompiledSchema) → Cut l → Open l s
-    → (t : List ℕ) (i : ℕ) → i < l.names.rows → row_text l.names.words.start i ≡ t → find_row l.names.words.start l.names.rows t ≡ i
+    → (t : List ℕ) (i : ℕ) → i < l.names.rows → row_text l.image.now l.texts i ≡ t → find_row l.image.now l.texts l.names.rows t ≡ i

@@ -85,12 +85,10 @@ pub fn resolve_qualified(l: &Layout, namespace: NameId, x: NameId) -> HeldType
     requires { Cut l.now }
     ensures { ResolvesQualified l.now namespace x result }
 {
-    let names = l.names;
-    let words = names.words;
     let row = image_qualified::find_qualified(
-        image,
-        words.start,
-        names.rows as usize,
+        l.image,
+        l.texts,
+        l.names.rows as usize,
         namespace,
         x,
     );

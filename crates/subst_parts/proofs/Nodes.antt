@@ -5,7 +5,7 @@ use mathlib.Core.Bool.{false}
 use mathlib.Core.List.{List}
 use native.Mathlib.Omega.{arith}
 use native.Mathlib.Decide.{dec_le}
-use lib.ListN.{get_or}
+use lib.ListN.{length, get_or}
 use Rattle.rules.specs.Syntax.{ResolvedType, TypeExpr, Param, CompiledSchema}
 use Rattle.rules.specs.Kinds.{type_kind}
 use Rattle.rules.specs.Substitute.{Counted, too_large, done}
@@ -40,7 +40,7 @@ module _ (l : Layout) (at left : ℕ) (params : List ℕ) (r : Resolved) where
   of_none z e s o f le ps w x n a = says_no l.names.rows left n _ r e (subst (λ (k : ℕ). Fails k (plain_depth s f ps x)) (sym z) (fails_none s f ps x))
 
   -- nothing stands past the pool's end
-  pub of_past : length (section_words l.pool) ≤ at → Substitutes l at left params r
+  pub of_past : length (pool_words l) ≤ at → Substitutes l at left params r
   of_past h s o f le ps w x n a = absurd (omega (arith, expr_inside x a.run_at))
 
   -- a node by its form, whose visit is taken off

@@ -4,6 +4,7 @@ use native.Mathlib.Omega.{arith}
 use mathlib.Core.Path.{◌≡◌, refl, sym, ap, subst, ◌∙◌}
 use mathlib.Core.Bool.{false}
 use mathlib.Core.List.{List}
+use lib.ListN.{length}
 use mathlib.Core.Option.{none}
 use Rattle.rules.specs.Syntax.{CompiledSchema}
 use Rattle.rules.specs.Substitute.{lookup_alias}
@@ -53,10 +54,10 @@ module _ (l : Layout) (at left : ℕ) where
     told_none e s o b = no_alias l.names.rows (pool_words l) r (lookup_alias s (name_at l at)) (told s o b) e
 
   -- what is so of a whole node that is read, by its kind
-  pub as_kind : {k : TypeKind} → (left ≡ 0 → ⊥) → at < length (section_words l.pool) → kind_at l at ≡ k → (Read l at left → WholeAs l at left (kind_at l at)) → WholeAs l at left k
+  pub as_kind : {k : TypeKind} → (left ≡ 0 → ⊥) → at < length (pool_words l) → kind_at l at ≡ k → (Read l at left → WholeAs l at left (kind_at l at)) → WholeAs l at left k
   as_kind z b is w = subst (WholeAs l at left) is (w (omega arith, b))
 
-  pub of_poison : (params : List ℕ) (r : Resolved) → (left ≡ 0 → ⊥) → at < length (section_words l.pool) → kind_at l at ≡ TypeKind.Generic → Poisons l (at + 1 + 1) (left - 1) r → ResolvesWhole l at left params r
+  pub of_poison : (params : List ℕ) (r : Resolved) → (left ≡ 0 → ⊥) → at < length (pool_words l) → kind_at l at ≡ TypeKind.Generic → Poisons l (at + 1 + 1) (left - 1) r → ResolvesWhole l at left params r
   of_poison params r z b is h w =
       of_generic l at left params r z is (λ s o f le ps v x y n e.
       let p = generic_stands x y e in

@@ -1,5 +1,5 @@
 -- What a node has to resolve before it is resolved itself.
-use Rattle.std.specs.Prelude.{ℕ, ◌+◌, ◌-◌, ◌<◌, ◌≤◌, ◌≡◌, true, false, List, get_or}
+use Rattle.std.specs.Prelude.{length, ℕ, ◌+◌, ◌-◌, ◌<◌, ◌≤◌, ◌≡◌, true, false, List, get_or}
 use Rattle.std.proofs.Math.Option.{none}
 use Rattle.rules.specs.Syntax.{CompiledSchema}
 use Rattle.rules.specs.Kinds.{type_kind}
@@ -31,7 +31,7 @@ module _ (l : Layout) (at : ℕ) where
   module _ (left : ℕ) where
     -- there is a node and a visit for it
     abbrev pub Read : Type 0
-    Read = (0 < left) × (at < length (section_words l.pool))
+    Read = (0 < left) × (at < length (pool_words l))
 
     -- a node of this kind has no part
     abbrev pub WholeAs : TypeKind → Type 0

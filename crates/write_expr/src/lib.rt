@@ -86,14 +86,7 @@ pub fn write_expr(
             next,
         );
     }
-    put_words(
-        l,
-        at,
-        leaf_size(codes::expr_kind(code)),
-        out,
-        limit,
-        next,
-    )
+    put_words(l, at, leaf_size(codes::expr_kind(code)), out, limit, next)
 }
 
 // Code and operator, then both operands: the right has the left's type.
@@ -119,12 +112,8 @@ fn write_binary(
     let right = infer_context::skip_expr(l, left, nest);
     let t = operand_type(l, ctx, names, words, lens, op, left, right, nest, ty);
     let a = put_words(l, at, 2, out, limit, to);
-    let b = write_expr(
-        l, ctx, names, words, lens, left, nest, t, out, limit, a,
-    );
-    write_expr(
-        l, ctx, names, words, lens, right, nest, t, out, limit, b,
-    )
+    let b = write_expr(l, ctx, names, words, lens, left, nest, t, out, limit, a);
+    write_expr(l, ctx, names, words, lens, right, nest, t, out, limit, b)
 }
 
 // Code and operator, then the value, of the same type.
@@ -147,7 +136,5 @@ fn write_unary(
 {
     let value = infer_context::first_part(l, at);
     let a = put_words(l, at, 2, out, limit, to);
-    write_expr(
-        l, ctx, names, words, lens, value, nest, ty, out, limit, a,
-    )
+    write_expr(l, ctx, names, words, lens, value, nest, ty, out, limit, a)
 }

@@ -103,9 +103,7 @@ pub fn foretell(
             ExprKind::Text => return HeldType::plain(TypeTag::STRING),
             ExprKind::Local => return foretell_place(l, ctx, names, words, lens, place),
             ExprKind::SelfRef => return foretell_place(l, ctx, names, words, lens, place),
-            ExprKind::FieldAccess => return foretell_place(
-                l, ctx, names, words, lens, place,
-            ),
+            ExprKind::FieldAccess => return foretell_place(l, ctx, names, words, lens, place),
             ExprKind::Call => return HeldType::plain(PrimitiveType::VOID),
             ExprKind::TraitMethodCall => return HeldType::plain(PrimitiveType::VOID),
             ExprKind::Binary => {

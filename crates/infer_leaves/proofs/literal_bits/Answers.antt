@@ -12,9 +12,8 @@ returns c =
     λ nest q low high n s.
     let v = words_of s in
     let g : ℕ → ℕ = λ (k : ℕ). get_or (pool_words c.args.l.now) k 0 in
-    let i = length_section c.requires.pool in
-    let a : c.after-next.result ≡ c.args.at + 1 = c.after-next.ensures (omega (arith, i, v.first)) in
-    let b : c.after.result ≡ c.args.at + 1 + 1 = c.after.ensures (omega (arith, i, v.first)) ∙ omega arith in
+    let a : c.after-next.result ≡ c.args.at + 1 = c.after-next.ensures (omega (arith, v.first)) in
+    let b : c.after.result ≡ c.args.at + 1 + 1 = c.after.ensures (omega (arith, v.first)) ∙ omega arith in
     let d : c.section_word-low.result ≡ low = c.section_word-low.ensures ∙ ap g a ∙ v.low_at in
     let e : c.section_word-high.result ≡ high = c.section_word-high.ensures ∙ ap g b ∙ v.high_at in
     omega (arith, d, e)

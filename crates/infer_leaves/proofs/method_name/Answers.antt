@@ -11,6 +11,5 @@ pub returns : goal.returns
 returns c =
     λ nest t x n e es s.
     let w = method_word s in
-    let i = length_section c.requires.pool in
-    let a : c.after.result ≡ c.args.at + 1 = c.after.ensures (omega (arith, i, w.0)) in
+    let a : c.after.result ≡ c.args.at + 1 = c.after.ensures (omega (arith, w.0)) in
     c.operand.ensures (omega (arith, w.0)) ∙ ap (λ (k : ℕ). get_or (pool_words c.args.l.now) (k + 1) 0) a ∙ w.1

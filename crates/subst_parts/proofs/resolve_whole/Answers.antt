@@ -14,7 +14,7 @@ returns-then-left-eq0 c =
 pub returns-then-count-at : goal.returns-then-count-at
 returns-then-count-at c =
     let a = c.args in
-    record { falls = omega (arith, c.failed-then-pool-at.ensures.1); means = λ w. of_past a.l.now a.at a.left a.params.now c.failed-then-pool-at.result c.if-count-at.true, c.count.ensures }
+    record { falls = omega (arith, c.failed-then-count-at.ensures.1); means = λ w. of_past a.l.now a.at a.left a.params.now c.failed-then-count-at.result (omega (arith, c.if-count-at.true, c.count.ensures)) }
 
 pub returns-in-Plain : goal.returns-in-Plain
 returns-in-Plain c =
@@ -50,25 +50,25 @@ pub returns-in-Generic : goal.returns-in-Generic
 returns-in-Generic c =
     let a = c.args in
     let k = ap type_kind (sym c.section_word.ensures) ∙ sym c.type_kind-k.ensures ∙ c.in-Generic.is in
-    record { falls = omega (arith, c.poison.ensures.falls); means = of_poison a.l.now a.at a.left a.params.now c.poison.result c.if-left-eq0.false c.if-count-at.false, c.count.ensures k c.poison.ensures.means }
+    record { falls = omega (arith, c.poison.ensures.falls); means = of_poison a.l.now a.at a.left a.params.now c.poison.result c.if-left-eq0.false (omega (arith, c.if-count-at.false, c.count.ensures)) k c.poison.ensures.means }
 
 pub returns-in-One : goal.returns-in-One
 returns-in-One c =
     let a = c.args in
     let k = ap type_kind (sym c.section_word.ensures) ∙ sym c.type_kind-k.ensures ∙ c.in-One.is in
-    record { falls = omega (arith, c.failed-in-One.ensures.1); means = λ w. absurd (as_kind a.l.now a.at a.left c.if-left-eq0.false c.if-count-at.false, c.count.ensures k w) }
+    record { falls = omega (arith, c.failed-in-One.ensures.1); means = λ w. absurd (as_kind a.l.now a.at a.left c.if-left-eq0.false (omega (arith, c.if-count-at.false, c.count.ensures)) k w) }
 
 pub returns-in-Fixed : goal.returns-in-Fixed
 returns-in-Fixed c =
     let a = c.args in
     let k = ap type_kind (sym c.section_word.ensures) ∙ sym c.type_kind-k.ensures ∙ c.in-Fixed.is in
-    record { falls = omega (arith, c.failed-in-Fixed.ensures.1); means = λ w. absurd (as_kind a.l.now a.at a.left c.if-left-eq0.false c.if-count-at.false, c.count.ensures k w) }
+    record { falls = omega (arith, c.failed-in-Fixed.ensures.1); means = λ w. absurd (as_kind a.l.now a.at a.left c.if-left-eq0.false (omega (arith, c.if-count-at.false, c.count.ensures)) k w) }
 
 pub returns-in-Two : goal.returns-in-Two
 returns-in-Two c =
     let a = c.args in
     let k = ap type_kind (sym c.section_word.ensures) ∙ sym c.type_kind-k.ensures ∙ c.in-Two.is in
-    record { falls = omega (arith, c.failed-in-Two.ensures.1); means = λ w. absurd (as_kind a.l.now a.at a.left c.if-left-eq0.false c.if-count-at.false, c.count.ensures k w) }
+    record { falls = omega (arith, c.failed-in-Two.ensures.1); means = λ w. absurd (as_kind a.l.now a.at a.left c.if-left-eq0.false (omega (arith, c.if-count-at.false, c.count.ensures)) k w) }
 
 pub returns-in-Unknown : goal.returns-in-Unknown
 returns-in-Unknown c =

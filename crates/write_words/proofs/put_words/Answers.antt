@@ -21,6 +21,6 @@ loop-i-preserved c = (
       let h : c.loop-i.i < length ws = omega (arith, l, c.loop-i-test.true) in
       let e : c.loop-i.from ≡ c.args.at + c.loop-i.i = v.0 in (
         c.after-from.ensures (omega (arith, stands_within s c.loop-i.i h)) ∙ omega arith,
-        written_more _ _ ws c.loop-i.i h v.1 (c.section_word.ensures ∙ ap (λ (k : ℕ). get_or (section_words c.args.l.now.pool) k 0) e ∙ stands_word s c.loop-i.i h) c.put-next.ensures,
+        written_more _ _ ws c.loop-i.i h v.1 (c.section_word.ensures ∙ ap (λ (k : ℕ). get_or (section_words c.args.l.now.pool.now) k 0) e ∙ stands_word s c.loop-i.i h) c.put-next.ensures,
       ),
 )

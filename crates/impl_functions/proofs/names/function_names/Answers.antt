@@ -26,8 +26,8 @@ loop-i-preserved c = (
   c.loop-i.invariant.0,
   simp length-set c.loop-i.invariant.1,
   λ ts n h. let v = c.loop-i.invariant.2 ts n h in
-      (named _ c.args.l ts _ v.0 c.loop-i-test.true (omega arith) c.name_at-name.ensures.asked c.after_asked-next.ensures, v.1),
+      (named c.args.l.now ts _ v.0 c.loop-i-test.true (omega arith) c.name_at-name.ensures.asked c.after_asked-next.ensures, v.1),
 )
 
 pub returns : goal.returns
-returns c = λ ts n h. let v = c.loop-i.invariant.2 ts n h in all_named _ c.args.l ts _ v.0 c.loop-i-test.false v.1
+returns c = λ ts n h. let v = c.loop-i.invariant.2 ts n h in all_named c.args.l.now ts _ v.0 c.loop-i-test.false v.1

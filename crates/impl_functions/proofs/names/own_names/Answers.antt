@@ -18,8 +18,8 @@ pub loop-i-preserved : goal.loop-i-preserved
 loop-i-preserved c = (
   simp length-set c.loop-i.invariant.0,
   omega arith,
-  λ fs h. own_named _ c.args.l fs _ _ (c.loop-i.invariant.2 fs h) c.loop-i-test.true (omega (arith, c.requires.1)) c.name_at-name.ensures.own,
+  λ fs h. own_named c.args.l.now fs _ _ (c.loop-i.invariant.2 fs h) c.loop-i-test.true (omega (arith, c.requires.1)) c.name_at-name.ensures.own,
 )
 
 pub returns : goal.returns
-returns c = λ fs h. all_own _ c.args.l fs _ _ (c.loop-i.invariant.2 fs h) c.loop-i-test.false c.loop-i.invariant.1
+returns c = λ fs h. all_own c.args.l.now fs _ _ (c.loop-i.invariant.2 fs h) c.loop-i-test.false c.loop-i.invariant.1

@@ -26,14 +26,14 @@ returns-then-not-listed c =
     λ ts m k fs h.
     let e = c.section_word.ensures ∙ k.0.is in
     let KnownIs = ap (λ (j : ℕ). take j c.function_names-names.result) (c.few-known.ensures.0 (omega (arith, k.1, e)) ∙ e) ∙ c.function_names-names.ensures ts m k in
-    not_known _ c.args.l _ _ _ (c.loop-i.invariant ts m k fs h) (omega arith) c.name_at-name.ensures.own (ap (member _) (sym KnownIs) ∙ sym c.listed.ensures ∙ not-true _ c.if-not-listed.true-raw) c.refused.ensures.0 (ap refusal_of c.refused.ensures.1 ∙ c.at.ensures)
+    not_known c.args.l.now _ _ _ (c.loop-i.invariant ts m k fs h) (omega arith) c.name_at-name.ensures.own (ap (member _) (sym KnownIs) ∙ sym c.listed.ensures ∙ not-true _ c.if-not-listed.true-raw) c.refused.ensures.0 (ap refusal_of c.refused.ensures.1 ∙ c.at.ensures)
 
 pub loop-i-preserved : goal.loop-i-preserved
 loop-i-preserved c =
     λ ts m k fs h.
     let e = c.section_word.ensures ∙ k.0.is in
     let KnownIs = ap (λ (j : ℕ). take j c.function_names-names.result) (c.few-known.ensures.0 (omega (arith, k.1, e)) ∙ e) ∙ c.function_names-names.ensures ts m k in
-    known _ c.args.l _ _ _ (c.loop-i.invariant ts m k fs h) (omega arith) c.name_at-name.ensures.own (ap (member _) (sym KnownIs) ∙ sym c.listed.ensures ∙ not-false _ c.if-not-listed.false-raw)
+    known c.args.l.now _ _ _ (c.loop-i.invariant ts m k fs h) (omega arith) c.name_at-name.ensures.own (ap (member _) (sym KnownIs) ∙ sym c.listed.ensures ∙ not-false _ c.if-not-listed.false-raw)
 
 pub returns : goal.returns
-returns c = λ ts m k fs h. all_known _ c.args.l _ _ _ (c.loop-i.invariant ts m k fs h) (omega arith) c.accepted.ensures.0
+returns c = λ ts m k fs h. all_known c.args.l.now _ _ _ (c.loop-i.invariant ts m k fs h) (omega arith) c.accepted.ensures.0

@@ -18,9 +18,9 @@ returns-then-row c s o i j =
 pub returns : goal.returns
 returns c s o i j =
     let a = c.args in
-    let at = a.l.now.names.words.start in
+    let at = a.l.now.texts in
     let row = c.find_qualified-row.result.0 in
     let e = qualified_at c.requires o a.namespace.0 a.x.0 i j row c.find_qualified-row.ensures in
-    let k = find_below a.image.now at a.l.now.names.rows (qualified_text a.image.now at a.namespace.0 a.x.0) (λ z. c.if-row.false (c.find_qualified-row.ensures ∙ z)) in
+    let k = find_below a.l.now.image.now at a.l.now.names.rows (qualified_text a.l.now.image.now at a.namespace.0 a.x.0) (λ z. c.if-row.false (c.find_qualified-row.ensures ∙ z)) in
     let d = c.lookup.ensures s o (omega (arith, k, c.find_qualified-row.ensures)) in
     subst (Holds a.l.now.names.rows c.named-2.result) (sym (qualified_some s a.namespace.0 a.x.0 row c.lookup.result.0 e d)) (named_holds a.l.now.names.rows c.named-2.ensures)
