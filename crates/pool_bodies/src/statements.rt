@@ -38,9 +38,7 @@ pub fn check_statement(pool: &[u8], at: usize, names: u32, strings: u32) -> Chec
     match k {
         StatementKind::Expr => pool_expressions::check_expression(pool, n, names, strings),
         StatementKind::Let => check_let(pool, n, names, strings),
-        StatementKind::Return => pool_expressions::check_maybe_expression(
-            pool, n, names, strings,
-        ),
+        StatementKind::Return => pool_expressions::check_maybe_expression(pool, n, names, strings),
         StatementKind::Assign => {
             let t = pool_expressions::check_expression(pool, n, names, strings);
             if !t.ok {

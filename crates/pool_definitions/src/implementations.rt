@@ -8,12 +8,7 @@ use pool_lists::{Form, Item};
 use rules::bounds::{FUNCTIONS, PARAMS, TYPE_PARAMS};
 
 // A name, at most 32 parameters, a return type or none, and the body.
-pub fn check_impl_function(
-    pool: &[u8],
-    at: usize,
-    names: u32,
-    strings: u32,
-) -> Checked
+pub fn check_impl_function(pool: &[u8], at: usize, names: u32, strings: u32) -> Checked
     ensures { Says (impl_function names strings) (section_words pool.now) at result }
 {
     let a = image_words::check_below(pool, at, names);
@@ -35,12 +30,7 @@ pub fn check_impl_function(
 }
 
 // At most 64 functions.
-pub fn check_impl_functions(
-    pool: &[u8],
-    at: usize,
-    names: u32,
-    strings: u32,
-) -> Checked
+pub fn check_impl_functions(pool: &[u8], at: usize, names: u32, strings: u32) -> Checked
     ensures { Says (many 64 (impl_function names strings)) (section_words pool.now) at result }
 {
     let n = image_words::check_count(pool, at, FUNCTIONS);
@@ -62,12 +52,7 @@ pub fn check_impl_functions(
 }
 
 // The trait's row and name, the target type, at most 8 type arguments, and the functions.
-pub fn check_implementation(
-    pool: &[u8],
-    at: usize,
-    names: u32,
-    strings: u32,
-) -> Checked
+pub fn check_implementation(pool: &[u8], at: usize, names: u32, strings: u32) -> Checked
     ensures { Says (implementation names strings) (section_words pool.now) at result }
 {
     let id = image_words::check_word(pool, at);
