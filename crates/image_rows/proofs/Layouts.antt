@@ -48,7 +48,7 @@ module _ (l : Layout) (cut : Cut l) where
   by_index t w i k at e below inside p = by_row t i k at below (omega arith) (rw e (omega arith))
 
   abbrev NameOf : Name → ℕ → ℕ → Type 0
-  NameOf n at m = NameAt l.texts (section_words l.pool.now) l.names.rows l.strings.rows l.definitions.rows (section_words l.names.words.now) at n × (m ≡ at + 4)
+  NameOf n at m = NameAt l.image.now l.texts (section_words l.pool.now) l.names.rows l.strings.rows l.definitions.rows (section_words l.names.words.now) at n × (m ≡ at + 4)
 
   -- as many names as there are rows, each as its row says
   pub record Names (ns : List Name) : Type 0 where
@@ -79,7 +79,7 @@ module _ (l : Layout) (cut : Cut l) where
     pub each : (i : ℕ) (t : List ℕ) → get_elem? ts i ≡ some t → StringStands l i t
 
   abbrev StringOf : List ℕ → ℕ → ℕ → Type 0
-  StringOf t at m = StringAt l.texts (section_words l.pool.now) l.names.rows l.strings.rows l.definitions.rows (section_words l.strings.words.now) at t × (m ≡ at + 2)
+  StringOf t at m = StringAt l.image.now l.texts (section_words l.pool.now) l.names.rows l.strings.rows l.definitions.rows (section_words l.strings.words.now) at t × (m ≡ at + 2)
 
   string_stands : (i : ℕ) (t : List ℕ) → i < l.strings.rows → {m : ℕ} → StringOf t (0 + 2 * i) m → StringStands l i t
   string_stands i t below of =
@@ -108,7 +108,7 @@ module _ (l : Layout) (cut : Cut l) where
     pub each : (i : ℕ) (d : TypeDef) → get_elem? ds i ≡ some d → DefinitionIn i d
 
   abbrev DefinitionOf : TypeDef → ℕ → ℕ → Type 0
-  DefinitionOf d at m = DefinitionAt l.texts (section_words l.pool.now) l.names.rows l.strings.rows l.definitions.rows (section_words l.definitions.words.now) at d × (m ≡ at + 2)
+  DefinitionOf d at m = DefinitionAt l.image.now l.texts (section_words l.pool.now) l.names.rows l.strings.rows l.definitions.rows (section_words l.definitions.words.now) at d × (m ≡ at + 2)
 
   definition_stands : (i : ℕ) (d : TypeDef) → i < l.definitions.rows → {m : ℕ} → DefinitionOf d (0 + 2 * i) m → DefinitionIn i d
   definition_stands i d below of =

@@ -107,7 +107,7 @@ module _ (image : List ℕ) (texts : ℕ) (pool : List ℕ) (names strings defin
 -- a definition's row, by its kind
 pub definition_then : {l : Layout} → Cut l → {i : ℕ} → i < l.definitions.rows → {row : DefinitionRow} → IsDefinitionRow l i row
     → {k : DefinitionKind} → row.kind ≡ k → {r : Checked}
-    → Says (definition_node l.texts (section_words l.pool.now) l.names.rows l.strings.rows l.definitions.rows k row.start) (section_words l.definitions.words.now) (l.definitions.width * (i + 1)) r
+    → Says (definition_node l.image.now l.texts (section_words l.pool.now) l.names.rows l.strings.rows l.definitions.rows k row.start) (section_words l.definitions.words.now) (l.definitions.width * (i + 1)) r
     → Says (definition_row_of l) (section_words l.definitions.words.now) (l.definitions.width * i) r
 unfolding definition_row
 definition_then cut below is told h = two_then cut.inside.definitions below cut.definitions _ refl (is.start below) (rw (sym told ∙ is.kind below) at h)
