@@ -20,6 +20,10 @@ value (some p) = some p.0
 abbrev pub well_ended : List ℕ → Bool
 well_ended image = within 24 65536 (length image) && good_trailer (length image) (trailer_told image)
 
+-- the layout that an image's own trailer tells
+abbrev pub IsLayoutOf : List ℕ → Layout → Type 0
+IsLayoutOf image l = TellsLayout image (trailer_told image) l
+
 -- the image is readable where its rows are
 pub record Laid (l : Layout) : Type 0 where
   pub cut : Cut l
@@ -28,4 +32,4 @@ pub record Laid (l : Layout) : Type 0 where
 -- a layout exactly where length and trailer are good: the one told, by which the rules read the image; without one it is not readable
 abbrev pub Read : List ℕ → Option Layout → Type 0
 Read image None = (well_ended image ≡ false) × (readable image ≡ none)
-Read image (Some l) = (well_ended image ≡ true) × TellsLayout image (trailer_told image) l × Laid l
+Read image (Some l) = (well_ended image ≡ true) × IsLayoutOf image l × Laid l
