@@ -4,9 +4,9 @@ use mathlib.Core.Path.{◌≡◌, refl, ap, subst, ◌∙◌}
 use mathlib.Core.Bool.{Bool, true, false}
 use mathlib.Core.List.{List, [], ◌∷◌}
 use mathlib.Core.Option.{none, some}
-use Rattle.std.specs.Prelude.{None, Some}
 use native.Mathlib.Omega.{arith}
 use lib.ListN.{length, drop, get_or, length-drop}
+use Rattle.std.specs.Prelude.{None, Some}
 use Rattle.rules.specs.Words.{within, words}
 use Rattle.rules.specs.Reader.{Rest, rest_at, Reader, bound, ◌>>=◌, give, rule, first, word, from}
 use Rattle.rules.specs.Image as rules

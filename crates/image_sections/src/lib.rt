@@ -1,7 +1,7 @@
 // The layout that an image's trailer tells.
 #![tactic(auto)]
 
-ghost use Rattle.std.specs.Prelude.{◌≡◌, true, ◌*◌, ◌-◌, ◌≤◌, length};
+ghost use Rattle.std.specs.Prelude.{◌≡◌, true, ◌*◌, ◌≤◌, length};
 ghost use Rattle.rules.specs.Image.{good_trailer};
 ghost use Rattle.image_trailer.specs.Trailers.{meant};
 ghost use Rattle.image_sections.specs.Tables.{Whole, TellsTable, TellsLayout};
