@@ -1,31 +1,37 @@
 // What both public calls do first.
 #![tactic(auto)]
 
-ghost use Rattle.call_open.specs.Fronts.{Fronts};
+ghost use Rattle.std.specs.Prelude.{◌≡◌};
+ghost use Rattle.call_open.specs.Fronts.{number_of, Fronts};
 
 use image_layout::Layout;
 use rules::bounds::DETAIL_BYTES;
 
-// What comes before a call: 1 or 2, or 0 and the readable image's layout.
+// Why a call comes to nothing before it is begun: the detail is too short, or the image is not readable.
 #[derive(Clone, Copy)]
-pub struct Front {
-    pub number: u32,
-    pub layout: Layout,
+pub enum Closed {
+    ShortDetail,
+    Unreadable,
 }
 
-// 1 where fewer than 576 bytes of detail are lent, then 2 where the image is not readable.
-pub fn look(image: &[u8], lent: usize) -> Front
+impl Closed {
+    // The number of the answer.
+    pub fn number(self) -> u32
+        ensures { result ≡ number_of self }
+    {
+        match self {
+            Closed::ShortDetail => 1,
+            Closed::Unreadable => 2,
+        }
+    }
+}
+
+// The layout of a readable image, where the detail that is lent has 576 bytes.
+pub fn look(image: &[u8], lent: usize) -> Result<Layout, Closed>
     ensures { Fronts image.now lent result }
 {
     if lent < DETAIL_BYTES {
-        let none = image_sections::no_layout();
-        let layout = none.layout;
-        return Front { number: 1, layout };
+        return Err(Closed::ShortDetail);
     }
-    let o = image::read_image(image);
-    let layout = o.layout;
-    if !o.ok {
-        return Front { number: 2, layout };
-    }
-    Front { number: 0, layout }
+    image::read_image(image).ok_or(Closed::Unreadable)
 }

@@ -9,20 +9,20 @@ use image_layout::Layout;
 use image_rows::Rows;
 
 // Names, whose texts all differ, strings and definitions.
-pub fn check_rows(image: &[u8], l: Layout) -> bool
-    requires { Cut image.now l }
-    ensures { Says (rows_of image.now l) [] 0 (verdict result 0) }
+pub fn check_rows(l: &Layout) -> bool
+    requires { Cut l.now }
+    ensures { Says (rows_of l.now) [] 0 (verdict result 0) }
 {
-    let named = image_rows::check_rows(Rows::Names, image, l);
+    let named = image_rows::check_rows(Rows::Names, l);
     if !named {
         return false;
     }
-    let differ = image_texts_differ::texts_differ(image, l.texts, l.names.rows as usize);
+    let differ = image_texts_differ::texts_differ(l.image, l.texts, l.names.rows as usize);
     if !differ {
         return false;
     }
-    if !image_rows::check_rows(Rows::Strings, image, l) {
+    if !image_rows::check_rows(Rows::Strings, l) {
         return false;
     }
-    image_rows::check_rows(Rows::Definitions, image, l)
+    image_rows::check_rows(Rows::Definitions, l)
 }

@@ -1,4 +1,4 @@
-// An image's verdict: readable or not, and then its layout.
+// An image's verdict: its layout where it is readable.
 #![tactic(auto)]
 
 mod all;
@@ -8,26 +8,19 @@ ghost use Rattle.rules.specs.Options.{is_some};
 ghost use Rattle.rules.specs.Image.{readable};
 ghost use Rattle.image.specs.Verdict.{Verdict};
 
-use image_layout::Opened;
+use image_layout::Layout;
 
-// Whether the image is readable, and where its rows stand: one walk of the image.
-pub fn read_image(image: &[u8]) -> Opened
+// Where the rows of a readable image stand: one walk of the image.
+pub fn read_image(image: &[u8]) -> Option<Layout>
     ensures { Verdict image.now result }
 {
-    let o = image_sections::read_layout(image);
-    if !o.ok {
-        return o;
-    }
-    let l = o.layout;
-    Opened {
-        ok: all::check_rows(image, l),
-        layout: l,
-    }
+    let l = image_sections::read_layout(image)?;
+    all::check_rows(&l).then_some(l)
 }
 
-// That alone.
+// Whether it is readable, alone.
 pub fn is_readable(image: &[u8]) -> bool
     ensures { result ≡ is_some (readable image.now) }
 {
-    read_image(image).ok
+    read_image(image).is_some()
 }

@@ -7,7 +7,7 @@ use mathlib.Core.Option.{Option, some}
 use native.Mathlib.Omega.{arith}
 use native.Mathlib.Nat.{mul-suc, add-sub_cancel_left}
 use native.Mathlib.Numerals.{add-one}
-use lib.ListN.{take, drop, get_or}
+use lib.ListN.{length, take, drop, get_or}
 use borrow.Author.Tests.{eq-eqb, ne_eqb, lt-ltb}
 use Rattle.rules.specs.Words.{NONE}
 use Rattle.rules.specs.Utf8.{well_formed}
@@ -31,32 +31,32 @@ use Rattle.image_layout.proofs.Words.{row_inside}
 use Rattle.image_rows.specs.Verdict.{verdict}
 
 -- a word of a row is one of its section's
-module _ (image : List ℕ) (t : Table) (i k : ℕ) (below : i < t.rows) (inside : k < t.width) where
-  pub row_at : row_word image t i k ≡ get_or (section_words t.words.now) (t.width * i + k) 0
+module _ (t : Table) (i k : ℕ) (below : i < t.rows) (inside : k < t.width) where
+  pub row_at : row_word t i k ≡ get_or (section_words t.words.now) (t.width * i + k) 0
   unfolding row_word
   row_at = rw (lt-ltb i t.rows below, lt-ltb k t.width inside)
 
-  step : Fits image t → {A : Type 0} (f : ℕ → Reader A) {at : ℕ} → at ≡ t.width * i + k → {w : ℕ} → w ≡ row_word image t i k → {d : Checked}
+  step : Fits t → {A : Type 0} (f : ℕ → Reader A) {at : ℕ} → at ≡ t.width * i + k → {w : ℕ} → w ≡ row_word t i k → {d : Checked}
       → Says (f w) (section_words t.words.now) (at + 1) d → Says (word >>= f) (section_words t.words.now) at d
   step fits f {at} e {w} q h =
-      let l : at < t.words.len = omega (arith, row_inside t.width i t.rows k below inside, fits.whole) in
-      word_then f (word_in fits.lies l) refl (q ∙ row_at ∙ ap (λ (n : ℕ). get_or (section_words t.words.now) n 0) (sym e)) h
+      let l : at < length (section_words t.words.now) = omega (arith, row_inside t.width i t.rows k below inside, fits.whole) in
+      word_then f (word_in l) refl (q ∙ row_at ∙ ap (λ (n : ℕ). get_or (section_words t.words.now) n 0) (sym e)) h
 
 -- all words of a row, and then what follows
-module _ {image : List ℕ} {t : Table} (fits : Fits image t) {i : ℕ} (below : i < t.rows) {A : Type 0} {r : Checked} where
-  two_then : t.width ≡ 2 → (f : ℕ → ℕ → Reader A) {a b : ℕ} → a ≡ row_word image t i 0 → b ≡ row_word image t i 1
+module _ {t : Table} (fits : Fits t) {i : ℕ} (below : i < t.rows) {A : Type 0} {r : Checked} where
+  two_then : t.width ≡ 2 → (f : ℕ → ℕ → Reader A) {a b : ℕ} → a ≡ row_word t i 0 → b ≡ row_word t i 1
       → Says (f a b) (section_words t.words.now) (t.width * (i + 1)) r → Says (word >>= λ a. word >>= λ b. f a b) (section_words t.words.now) (t.width * i) r
   two_then w f {a} {b} p q h =
       let e : t.width * (i + 1) ≡ t.width * i + 1 + 1 = rw (add-one i) (omega (arith, mul-suc t.width i)) in
-      step image t i 0 below (omega arith) fits _ (omega arith) p (step image t i 1 below (omega arith) fits _ (omega arith) q (rw e at h))
+      step t i 0 below (omega arith) fits _ (omega arith) p (step t i 1 below (omega arith) fits _ (omega arith) q (rw e at h))
 
-  four_then : t.width ≡ 4 → (f : ℕ → ℕ → ℕ → ℕ → Reader A) {a b c d : ℕ} → a ≡ row_word image t i 0 → b ≡ row_word image t i 1 → c ≡ row_word image t i 2 → d ≡ row_word image t i 3
+  four_then : t.width ≡ 4 → (f : ℕ → ℕ → ℕ → ℕ → Reader A) {a b c d : ℕ} → a ≡ row_word t i 0 → b ≡ row_word t i 1 → c ≡ row_word t i 2 → d ≡ row_word t i 3
       → Says (f a b c d) (section_words t.words.now) (t.width * (i + 1)) r
       → Says (word >>= λ a. word >>= λ b. word >>= λ c. word >>= λ d. f a b c d) (section_words t.words.now) (t.width * i) r
   four_then w f {a} {b} {c} {d} p q u v h =
       let e : t.width * (i + 1) ≡ t.width * i + 1 + 1 + 1 + 1 = rw (add-one i) (omega (arith, mul-suc t.width i)) in
-      step image t i 0 below (omega arith) fits _ (omega arith) p (step image t i 1 below (omega arith) fits _ (omega arith) q
-      (step image t i 2 below (omega arith) fits _ (omega arith) u (step image t i 3 below (omega arith) fits _ (omega arith) v (rw e at h))))
+      step t i 0 below (omega arith) fits _ (omega arith) p (step t i 1 below (omega arith) fits _ (omega arith) q
+      (step t i 2 below (omega arith) fits _ (omega arith) u (step t i 3 below (omega arith) fits _ (omega arith) v (rw e at h))))
 
 -- a name's row, and a string's
 pub name_then : {l : Layout} → Cut l → {i : ℕ} → i < l.names.rows → {row : NameRow} → IsNameRow l i row → {A : Type 0} (f : ℕ → ℕ → ℕ → ℕ → Reader A) {r : Checked}
@@ -107,7 +107,7 @@ module _ (image : List ℕ) (texts : ℕ) (pool : List ℕ) (names strings defin
 -- a definition's row, by its kind
 pub definition_then : {l : Layout} → Cut l → {i : ℕ} → i < l.definitions.rows → {row : DefinitionRow} → IsDefinitionRow l i row
     → {k : DefinitionKind} → row.kind ≡ k → {r : Checked}
-    → Says (definition_node l.texts (section_words l.pool.now) l.names.rows l.strings.rows l.definitions.rows k row.start) (section_words l.definitions.words.now) (l.definitions.width * (i + 1)) r
+    → Says (definition_node l.image.now l.texts (section_words l.pool.now) l.names.rows l.strings.rows l.definitions.rows k row.start) (section_words l.definitions.words.now) (l.definitions.width * (i + 1)) r
     → Says (definition_row_of l) (section_words l.definitions.words.now) (l.definitions.width * i) r
 unfolding definition_row
 definition_then cut below is told h = two_then cut.inside.definitions below cut.definitions _ refl (is.start below) (rw (sym told ∙ is.kind below) at h)

@@ -21,7 +21,7 @@ pub enum Rows {
 
 // How many there are.
 fn count(which: Rows, l: &Layout) -> u32
-    ensures { result ≡ (table_of which l).rows }
+    ensures { result ≡ (table_of which l.now).rows }
 {
     match which {
         Rows::Names => l.names.rows,
@@ -32,7 +32,7 @@ fn count(which: Rows, l: &Layout) -> u32
 
 // One of them.
 fn check_row(which: Rows, l: &Layout, i: u32) -> bool
-    requires { Cut l.now × (i < (table_of which l).rows) }
+    requires { Cut l.now × (i < (table_of which l.now).rows) }
     ensures { RowSays which l.now i result }
 {
     match which {

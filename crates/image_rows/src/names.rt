@@ -23,7 +23,7 @@ pub fn check_name_row(l: &Layout, i: NameId) -> bool
     if texts < end {
         return false;
     }
-    if !utf8::well_formed(&image[start..end]) {
+    if !utf8::well_formed(&l.image[start..end]) {
         return false;
     }
     let definition = row.definition;

@@ -17,5 +17,5 @@ pub fn check_string_row(l: &Layout, i: u32) -> bool
     if texts < end {
         return false;
     }
-    utf8::well_formed(&image[start..end])
+    utf8::well_formed(&l.image[start..end])
 }

@@ -1,28 +1,26 @@
 -- The rules' reading of an image, opened by its trailer.
-use Prim.Native.Nat.{ℕ, ◌+◌, ◌-◌, ◌*◌}
-use mathlib.Core.Path.{◌≡◌, refl, sym, ap, ◌∙◌}
+use Prim.Native.Nat.{ℕ, ◌-◌, ◌*◌, ◌/◌, ◌≤◌}
+use mathlib.Core.Path.{◌≡◌, refl, ap, subst, ◌∙◌}
 use mathlib.Core.Bool.{Bool, true, false}
 use mathlib.Core.List.{List, [], ◌∷◌}
 use mathlib.Core.Option.{none, some}
 use native.Mathlib.Omega.{arith}
 use lib.ListN.{length, drop, get_or, length-drop}
-use lib.Seq.{take_all}
+use Rattle.std.specs.Prelude.{None, Some}
 use Rattle.rules.specs.Words.{within, words}
 use Rattle.rules.specs.Reader.{Rest, rest_at, Reader, bound, ◌>>=◌, give, rule, first, word, from}
 use Rattle.rules.specs.Image as rules
-use Rattle.rules.specs.Image.{part, trailer, good_trailer, sections, schema, readable}
+use Rattle.rules.specs.Image.{trailer, good_trailer, sections, schema, readable}
 use Rattle.words.proofs.Words.{length_words}
-use Rattle.image_words.specs.declared.Section.{Section}
 use Rattle.image_words.specs.Verdict.{section_words}
-use Rattle.image_words.proofs.Steps.{true_false}
+use Rattle.image_words.proofs.Sections.{length_section}
 use Rattle.image_layout.specs.declared.Layout.{Layout}
-use Rattle.image_layout.specs.declared.Opened.{Opened}
 use Rattle.image_layout.specs.Readers.{rows_of}
 use Rattle.image_trailer.specs.declared.Trailer.{Trailer}
 use Rattle.image_trailer.specs.Trailers.{meant, IsTrailer, trailer_told}
-use Rattle.image_sections.specs.Tables.{layout_told}
-use Rattle.image_sections.specs.Laid.{value, no_layout, layout_if, opened_told, Laid, Read}
-use Rattle.image_sections.proofs.Trailers.{bounds, parts, Tells, tells}
+use Rattle.image_sections.specs.Tables.{TellsLayout}
+use Rattle.image_sections.specs.Laid.{value, Laid, Read}
+use Rattle.image_sections.proofs.Trailers.{bounds, parts, rows_bytes, part_length, told_fits}
 
 -- a trailer by its six words
 abbrev told : List ℕ → rules.Trailer
@@ -37,11 +35,6 @@ six (a ∷ b ∷ c ∷ []) e = absurd (omega arith)
 six (a ∷ b ∷ c ∷ d ∷ []) e = absurd (omega arith)
 six (a ∷ b ∷ c ∷ d ∷ f ∷ []) e = absurd (omega arith)
 six (a ∷ b ∷ c ∷ d ∷ f ∷ g ∷ rest) e = refl
-
--- a section's words, by the bytes from its start to its stop
-section_part : (image : List ℕ) (s : Section) {a b : ℕ} → s.start ≡ a → a + 4 * s.len ≡ b → section_words image s ≡ words (part image a b)
-unfolding section_words
-section_part image s {a} {b} e f = let n : 4 * s.len ≡ b - a = omega arith in rw (n, e)
 
 -- steps of a reading that are settled
 module _ {A : Type 0} where
@@ -64,17 +57,14 @@ module _ (image : List ℕ) where
   unsized e = ap value (broken _ _ e)
 
   module _ (t : Trailer) (is : IsTrailer image t) (sized : within 24 65536 (length image) ≡ true) where
-    last_words : section_words image (record { start = length image - 24; len = 6 }) ≡ words (drop (length image - 24) image)
-    unfolding section_words
-    last_words = ap words (take_all 24 (drop (length image - 24) image) (let b = bounds (length image) sized in simp length-drop (omega arith)))
-
     read : trailer (rest_at (words (drop (length image - 24) image)) 0) ≡ some (meant t, rest_at (words (drop (length image - 24) image)) 6)
+    unfolding section_words
     read =
         let b = bounds (length image) sized in
+        let last : List ℕ = words (drop (length image - 24) image) in
         let n : length (drop (length image - 24) image) ≡ 4 * 6 = simp length-drop (omega arith) in
-        let e : told (section_words image (record { start = length image - 24; len = 6 })) ≡ meant t = cc in
-        six (words (drop (length image - 24) image)) (length_words 6 (drop (length image - 24) image) n)
-        ∙ ap (λ (x : rules.Trailer). some (x, rest_at (words (drop (length image - 24) image)) 6)) (ap told (sym last_words) ∙ e)
+        let e : told last ≡ meant t = cc in
+        six last (length_words 6 (drop (length image - 24) image) n) ∙ ap (λ (x : rules.Trailer). some (x, rest_at last 6)) e
 
     opened : readable image ≡ value (bound (rule (good_trailer (length image) (meant t)) (rest_at [] 0)) (λ _. sections image (length image) (meant t)))
     unfolding readable schema ◌>>=◌
@@ -83,63 +73,50 @@ module _ (image : List ℕ) where
     bad : good_trailer (length image) (meant t) ≡ false → readable image ≡ none
     bad e = opened ∙ ap value (broken _ _ e)
 
-    module _ {l : Layout} (good : good_trailer (length image) (meant t) ≡ true) (tells : Tells (length image) (meant t) l) where
-      reads : readable image ≡ value (rows_of image l (rest_at [] 0))
-      unfolding sections
+    module _ {l : Layout} (good : good_trailer (length image) (meant t) ≡ true) (tells : TellsLayout image (meant t) l) where
+      reads : readable image ≡ value (rows_of l (rest_at [] 0))
+      unfolding sections section_words
       reads =
-          let same : sections image (length image) (meant t) (rest_at [] 0) ≡ rows_of image l (rest_at [] 0) = cc (
-            section_part image l.names.words tells.names.start tells.names.stop,
-            section_part image l.strings.words tells.strings.start tells.strings.stop,
-            section_part image l.pool tells.pool_start tells.pool_stop,
-            section_part image l.definitions.words tells.definitions.start tells.definitions.stop,
-          ) in
+          let same : sections image (length image) (meant t) (rest_at [] 0) ≡ rows_of l (rest_at [] 0) = cc in
           opened ∙ ap value (passed _ _ good ∙ same)
 
-      laid : Laid image l
+      laid : Laid l
       laid =
           let b = bounds (length image) sized in
           let p = parts (length image) (meant t) good in
+          let bytes : length l.image.now ≡ length image = ap length tells.bytes in
+          let few : length l.pool.now ≤ 65536 = rw tells.pool (omega (arith, part_length image t.pool t.definitions (omega arith))) in
+          let all : 16 * ((t.strings - t.names) / 16) ≡ t.strings - t.names = omega (arith, rows_bytes 4 p.names) in
           record {
             cut = record {
               inside = record {
-                small = b.1;
-                names = record { lies = record { fits = omega arith }; whole = tells.names.whole };
-                strings = record { lies = record { fits = omega arith }; whole = tells.strings.whole };
-                pool = record { fits = omega arith };
-                definitions = record { lies = record { fits = omega arith }; whole = tells.definitions.whole };
-                few_names = omega arith;
-                few_definitions = omega arith;
+                small = omega arith;
+                names = told_fits (omega arith) p.names tells.names;
+                strings = told_fits (omega arith) p.strings tells.strings;
+                pool = omega (arith, length_section l.pool.now);
+                definitions = told_fits (omega arith) p.definitions tells.definitions;
+                few_names = omega (arith, tells.names.rows, p.names.few);
+                few_definitions = omega (arith, tells.definitions.rows, p.definitions.few);
               };
-              texts = tells.texts ∙ sym tells.names.start;
+              texts_end = omega arith;
+              texts = rw (tells.names.words, tells.names.rows, tells.texts, tells.bytes, all) refl;
               names = tells.names.width;
               strings = tells.strings.width;
               definitions = tells.definitions.width;
             };
-            reads = reads;
+            reads = ap readable tells.bytes ∙ reads;
           }
-
--- the answer, by which of the two it is
-refusal : {image : List ℕ} {r : Opened} → r ≡ opened_told image → r.ok ≡ false → readable image ≡ none → Read image r
-refusal q n e = record { told = q; laid = λ y. absurd (true_false (sym y ∙ n)); refused = λ _. e }
-
-accepted : {image : List ℕ} {r : Opened} → r ≡ opened_told image → r.ok ≡ true → Laid image r.layout → Read image r
-accepted q y l = record { told = q; laid = λ _. l; refused = λ n. absurd (true_false (sym y ∙ n)) }
 
 is_told : (image : List ℕ) (t : Trailer) → IsTrailer image t → meant t ≡ trailer_told image
 is_told image t is = cc
 
 module _ (image : List ℕ) where
-  pub unsized_read : within 24 65536 (length image) ≡ false → {r : Opened} → r ≡ no_layout → Read image r
-  unfolding opened_told layout_if
-  unsized_read e q = refusal (rw e q) (ap (λ (o : Opened). o.ok) q) (unsized image e)
+  pub unsized_read : within 24 65536 (length image) ≡ false → Read image None
+  unsized_read e = (rw e refl, unsized image e)
 
   module _ (t : Trailer) (is : IsTrailer image t) (sized : within 24 65536 (length image) ≡ true) where
-    pub bad_read : good_trailer (length image) (meant t) ≡ false → {r : Opened} → r ≡ no_layout → Read image r
-    unfolding opened_told layout_if
-    bad_read e q = refusal (rw (sized, ← is_told image t is, e) q) (ap (λ (o : Opened). o.ok) q) (bad image t is sized e)
+    pub bad_read : good_trailer (length image) (meant t) ≡ false → Read image None
+    bad_read e = (rw (sized, ← is_told image t is) e, bad image t is sized e)
 
-    pub good_read : good_trailer (length image) (meant t) ≡ true → {l : Layout} → l ≡ layout_told (length image) (meant t) → Read image (record { ok = true; layout = l })
-    unfolding opened_told layout_if
-    good_read e {l} q =
-        accepted (rw (sized, ← is_told image t is, e) (ap (λ (x : Layout). record { ok = true; layout = x }) (q ∙ ap (layout_told (length image)) (is_told image t is)))) refl
-        (laid image t is sized e (rw q (tells (length image) (meant t) e)))
+    pub good_read : good_trailer (length image) (meant t) ≡ true → {l : Layout} → TellsLayout image (meant t) l → Read image (Some l)
+    good_read e {l} told = (rw (sized, ← is_told image t is) e, subst (λ (x : rules.Trailer). TellsLayout image x l) (is_told image t is) told, laid image t is sized e told)

@@ -1,17 +1,21 @@
 -- What the tests of a trailer show, and a table's numbers.
-use Prim.Native.Nat.{ℕ, ◌+◌, ◌-◌, ◌*◌, ◌/◌, ◌%◌, ◌≤◌}
-use mathlib.Core.Path.{◌≡◌, refl}
+use Prim.Native.Nat.{ℕ, ◌-◌, ◌*◌, ◌/◌, ◌%◌, ◌≤◌}
+use mathlib.Core.Path.{◌≡◌, refl, sym, ◌∙◌}
 use mathlib.Core.Bool.{Bool, true, false, ◌&&◌}
+use mathlib.Core.List.{List}
 use native.Mathlib.Omega.{arith}
-use native.Mathlib.Nat.{div-add-mod, mul-le-mul, mul_assoc}
+use native.Mathlib.Nat.{div-add-mod, mul_assoc}
 use lib.Dec.{leb, eqb}
+use lib.ListN.{length, length-take, length-drop}
 use borrow.Author.Tests.{leb-true, eqb-true}
 use Rattle.rules.specs.Words.{within}
 use Rattle.rules.specs.Image as rules
-use Rattle.rules.specs.Image.{whole_rows, good_trailer}
+use Rattle.rules.specs.Image.{part, whole_rows, good_trailer}
+use Rattle.words.proofs.Words.{length_words}
+use Rattle.image_words.specs.Verdict.{section_words}
 use Rattle.image_layout.specs.declared.Table.{Table}
-use Rattle.image_layout.specs.declared.Layout.{Layout}
-use Rattle.image_sections.specs.Tables.{Whole, table_told, layout_told}
+use Rattle.image_layout.specs.Rows.{Fits}
+use Rattle.image_sections.specs.Tables.{Whole, TellsTable}
 
 both : (a b : Bool) → (a && b) ≡ true → (a ≡ true) × (b ≡ true)
 both true b e = (refl, e)
@@ -53,41 +57,17 @@ parts size t e =
 pub fewer : {a b w m n : ℕ} → m ≤ n → Whole a b w m → Whole a b w n
 fewer {a} {b} {w} {m} {n} l h = record { order = h.order; exact = h.exact; few = omega (arith, h.few) }
 
--- the rows' words are the bytes
-pub rows_words : (w : ℕ) {a b most : ℕ} → Whole a b (4 * w) most → a + 4 * (w * ((b - a) / (4 * w))) ≡ b
-rows_words w {a} {b} h = let e = div-add-mod (b - a) (4 * w) in omega (arith, e, h.exact, h.order, mul_assoc 4 w ((b - a) / (4 * w)))
+-- the rows are all the bytes
+pub rows_bytes : (w : ℕ) {a b most : ℕ} → Whole a b (4 * w) most → 4 * (w * ((b - a) / (4 * w))) ≡ b - a
+rows_bytes w {a} {b} h = let e = div-add-mod (b - a) (4 * w) in omega (arith, e, h.exact, mul_assoc 4 w ((b - a) / (4 * w)))
 
--- a table of rows of w words from a to b
-pub record Tabled (a b w : ℕ) (t : Table) : Type 0 where
-  pub start : t.words.start ≡ a
-  pub stop : a + 4 * t.words.len ≡ b
-  pub whole : t.words.len ≡ t.width * t.rows
-  pub rows : t.rows ≡ (b - a) / (4 * w)
-  pub width : t.width ≡ w
+-- a part inside the image is as long as its places are apart
+pub part_length : (image : List ℕ) (a b : ℕ) → b ≤ length image → length (part image a b) ≡ b - a
+part_length image a b h = simp (length-take, length-drop) (omega arith)
 
--- the layout of the trailer of an image of `size` bytes
-pub record Tells (size : ℕ) (t : rules.Trailer) (l : Layout) : Type 0 where
-  pub texts : l.texts ≡ t.names_start
-  pub names : Tabled t.names_start t.strings_start 4 l.names
-  pub strings : Tabled t.strings_start t.pool_start 2 l.strings
-  pub pool_start : l.pool.start ≡ t.pool_start
-  pub pool_stop : t.pool_start + 4 * l.pool.len ≡ t.definitions_start
-  pub definitions : Tabled t.definitions_start (size - 24) 2 l.definitions
-
-tabled : (w : ℕ) {a b most : ℕ} → Whole a b (4 * w) most → Tabled a b w (table_told a b w)
-tabled w h = record { start = refl; stop = rows_words w h; whole = refl; rows = refl; width = refl }
-
-pub tells : (size : ℕ) (t : rules.Trailer) → good_trailer size t ≡ true → Tells size t (layout_told size t)
-tells size t e =
-    let p = parts size t e in
-    record { texts = refl; names = tabled 4 p.names; strings = tabled 2 p.strings; pool_start = refl; pool_stop = rows_words 1 p.pool; definitions = tabled 2 p.definitions }
-
--- the layout of the four tables
-pub joined : (size : ℕ) (t : rules.Trailer) {n s p d : Table} → n ≡ table_told t.names_start t.strings_start 4 → s ≡ table_told t.strings_start t.pool_start 2
-    → p ≡ table_told t.pool_start t.definitions_start 1 → d ≡ table_told t.definitions_start (size - 24) 2
-    → ◌≡◌ {A = Layout} (record { texts = t.names_start; names = n; strings = s; pool = p.words; definitions = d }) (layout_told size t)
-joined size t a b c e = rw (a, b, c, e)
-
--- and are few
-pub rows_few : {w n : ℕ} → w ≤ 4 → n ≤ 65536 → w * n ≤ 262144
-rows_few {w} {n} h l = let m : w * n ≤ 4 * 65536 = mul-le-mul h l in omega arith
+-- so a table has whole rows
+pub told_fits : {image : List ℕ} {a b w most : ℕ} {t : Table} → b ≤ length image → Whole a b (4 * w) most → TellsTable image a b w t → Fits t
+unfolding section_words
+told_fits {image} {a} {b} {w} l h told = record {
+  whole = rw (told.words, told.width, told.rows) (length_words (w * ((b - a) / (4 * w))) (part image a b) (part_length image a b l ∙ sym (rows_bytes w h)));
+}

@@ -1,6 +1,7 @@
 -- The tables and the layout that a trailer tells.
-use Rattle.std.specs.Prelude.{ℕ, ◌-◌, ◌*◌, ◌/◌, ◌%◌, ◌≤◌, ◌≡◌}
+use Rattle.std.specs.Prelude.{ℕ, ◌-◌, ◌*◌, ◌/◌, ◌%◌, ◌≤◌, ◌≡◌, List, length}
 use Rattle.rules.specs.Image as rules
+use Rattle.rules.specs.Image.{part}
 use Rattle.image_layout.specs.declared.Table.{Table}
 use Rattle.image_layout.specs.declared.Layout.{Layout}
 
@@ -10,16 +11,17 @@ pub record Whole (a b w most : ℕ) : Type 0 where
   pub exact : (b - a) % w ≡ 0
   pub few : (b - a) / w ≤ most
 
--- the table of rows of w words from a to b
-abbrev pub table_told : ℕ → ℕ → ℕ → Table
-table_told a b w = record { words = record { start = a; len = w * ((b - a) / (4 * w)) }; rows = (b - a) / (4 * w); width = w }
+-- a table is the image's bytes from a to b, in rows of w words
+pub record TellsTable (image : List ℕ) (a b w : ℕ) (t : Table) : Type 0 where
+  pub words : t.words.now ≡ part image a b
+  pub rows : t.rows ≡ (b - a) / (4 * w)
+  pub width : t.width ≡ w
 
--- the layout that the trailer of an image of `size` bytes tells
-abbrev pub layout_told : ℕ → rules.Trailer → Layout
-layout_told size t = record {
-  texts = t.names_start;
-  names = table_told t.names_start t.strings_start 4;
-  strings = table_told t.strings_start t.pool_start 2;
-  pool = (table_told t.pool_start t.definitions_start 1).words;
-  definitions = table_told t.definitions_start (size - 24) 2;
-}
+-- a layout is the one that an image's trailer tells
+pub record TellsLayout (image : List ℕ) (t : rules.Trailer) (l : Layout) : Type 0 where
+  pub bytes : l.image.now ≡ image
+  pub texts : l.texts ≡ t.names_start
+  pub names : TellsTable image t.names_start t.strings_start 4 l.names
+  pub strings : TellsTable image t.strings_start t.pool_start 2 l.strings
+  pub pool : l.pool.now ≡ part image t.pool_start t.definitions_start
+  pub definitions : TellsTable image t.definitions_start (length image - 24) 2 l.definitions

@@ -1,5 +1,5 @@
 -- The trailer's words.
-use Rattle.std.specs.Prelude.{ℕ, ◌-◌, ◌≡◌, List, length, get_or}
+use Rattle.std.specs.Prelude.{ℕ, ◌-◌, ◌≡◌, List, length, drop, get_or}
 use Rattle.rules.specs.Image as rules
 use Rattle.image_words.specs.Verdict.{section_words}
 use Rattle.image_trailer.specs.declared.Trailer.{Trailer}
@@ -10,7 +10,7 @@ meant t = record { names_start = t.names; strings_start = t.strings; pool_start 
 
 -- word k of the trailer
 abbrev pub trailer_word : List ℕ → ℕ → ℕ
-trailer_word image k = get_or (section_words image (record { start = length image - 24; len = 6 })) k 0
+trailer_word image k = get_or (section_words (drop (length image - 24) image)) k 0
 
 pub record IsTrailer (image : List ℕ) (t : Trailer) : Type 0 where
   pub names : t.names ≡ trailer_word image 0

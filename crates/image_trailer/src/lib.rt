@@ -5,7 +5,6 @@ ghost use Rattle.std.specs.Prelude.{◌≡◌, ◌*◌, ◌≤◌, length};
 ghost use Rattle.rules.specs.Image.{whole_rows, good_trailer};
 ghost use Rattle.image_trailer.specs.Trailers.{meant, IsTrailer};
 
-use image_words::Section;
 use rules::bounds::{DEFINITIONS, IMAGE_BYTES, NAMES, STRINGS, TRAILER_BYTES};
 
 // Words of a row. What a definition row of format 1 has stands here; the layout hands it on.
@@ -31,17 +30,14 @@ pub fn read_trailer(image: &[u8]) -> Trailer
     requires { 24 ≤ length image.now }
     ensures { IsTrailer image.now result }
 {
-    let s = Section {
-        start: image.len() - TRAILER_BYTES,
-        len: 6,
-    };
+    let last = &image[image.len() - TRAILER_BYTES..];
     Trailer {
-        names: image_words::section_word(image, s, 0) as usize,
-        strings: image_words::section_word(image, s, 1) as usize,
-        pool: image_words::section_word(image, s, 2) as usize,
-        definitions: image_words::section_word(image, s, 3) as usize,
-        format: image_words::section_word(image, s, 4) as usize,
-        size: image_words::section_word(image, s, 5) as usize,
+        names: image_words::section_word(last, 0) as usize,
+        strings: image_words::section_word(last, 1) as usize,
+        pool: image_words::section_word(last, 2) as usize,
+        definitions: image_words::section_word(last, 3) as usize,
+        format: image_words::section_word(last, 4) as usize,
+        size: image_words::section_word(last, 5) as usize,
     }
 }
 

@@ -31,10 +31,8 @@ fn lowest_row(l: &Layout) -> TypeId
 pub fn lowest_implementation(image: &[u8]) -> TypeId
     ensures { result.0 ≡ lowest_implementation image.now }
 {
-    let o = image::read_image(image);
-    if !o.ok {
+    let Some(l) = image::read_image(image) else {
         return TypeId(0);
-    }
-    let l = o.layout;
-    lowest_row(l)
+    };
+    lowest_row(&l)
 }

@@ -1,16 +1,19 @@
 -- `call_open::look` meets its contract. Assumes nothing.
-use mathlib.Core.Path.{refl}
+use Prim.Native.Nat.{ℕ, ◌≤◌}
+use mathlib.Core.List.{List}
 use native.Mathlib.Omega.{arith}
-use borrow.Author.Tests.{not-true, not-false}
-use Rattle.image.proofs.Verdicts.{not_some, not_none}
+use Rattle.std.specs.Prelude.{Option, None, Some}
+use Rattle.std.specs.Option.{ok_or}
+use Rattle.image_layout.specs.declared.Layout.{Layout}
+use Rattle.image.specs.Verdict.{Verdict}
+use Rattle.call_open.specs.declared.Closed.{Closed}
+use Rattle.call_open.specs.Fronts.{Fronts}
 use Rattle.call_open.proofs.look.Goals as goal
 
-pub returns-then-not-o : goal.returns-then-not-o
-returns-then-not-o c =
-    let v = c.read_image-o.ensures in
-    record { short = λ h. absurd (omega arith); told = λ h. v.told; unread = λ h e. refl; opens = λ h s e. absurd (not_some v (not-true _ c.if-not-o.true) s e) }
+-- the detail has room, and the image was looked at
+looked : (image : List ℕ) (room : ℕ) → 576 ≤ room → (o : Option Layout) → Verdict image o → Fronts image room (ok_or o Closed.Unreadable)
+looked image room h None v = (h, v)
+looked image room h (Some l) v = (h, v)
 
 pub returns : goal.returns
-returns c =
-    let v = c.read_image-o.ensures in
-    record { short = λ h. absurd (omega arith); told = λ h. v.told; unread = λ h e. absurd (not_none v (not-false _ c.if-not-o.false) e); opens = λ h s e. (refl, v.cut s e, v.opens s e) }
+returns c = rw c.ok_or.ensures.value (looked _ c.args.lent (omega arith) _ c.read_image.ensures)

@@ -1,7 +1,6 @@
 -- `image_rows::check_rows` meets its contract. Assumes nothing.
 use borrow.Author.Tests.{not-true, not-false}
 use native.Mathlib.Omega.{arith}
-use Prim.Native.Nat.{◌-◌}
 use Rattle.image_rows.proofs.RowSteps.{rows_next, rows_stop, rows_done}
 use Rattle.image_rows.proofs.check_rows.Goals as goal
 

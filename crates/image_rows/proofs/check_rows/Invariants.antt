@@ -6,7 +6,7 @@ use Rattle.image_rows.proofs.RowSteps.{RowsLeft}
 use Rattle.image_rows.proofs.check_rows.Given as goal
 
 abbrev pub invariant-loop-i : goal.invariant-loop-i
-invariant-loop-i l = RowsLeft (reader_of l.which l.l) (section_words l.image (table_of l.which l.l).words) (table_of l.which l.l).width (table_of l.which l.l).rows l.i
+invariant-loop-i l = RowsLeft (reader_of l.which l.l) (section_words (table_of l.which l.l).words.now) (table_of l.which l.l).width (table_of l.which l.l).rows l.i
 
 abbrev pub decreases-loop-i : goal.decreases-loop-i
 decreases-loop-i l = l.n - l.i

@@ -13,4 +13,4 @@ returns-then-texts-end c = string_then c.requires.0 c.requires.1 c.string_row-ro
 
 pub returns : goal.returns
 unfolding string_row
-returns c = string_then c.requires.0 c.requires.1 c.string_row-row.ensures _ (rule_then _ (le-leb (c.string_row-row.result.start + c.string_row-row.result.size) _ (omega arith)) (last _ (last_rule (own_text c.args.image.now c.string_row-row.result.start c.string_row-row.result.size c.well_formed-2.ensures))))
+returns c = string_then c.requires.0 c.requires.1 c.string_row-row.ensures _ (rule_then _ (le-leb (c.string_row-row.result.start + c.string_row-row.result.size) _ (omega arith)) (last _ (last_rule (own_text c.args.l.now.image.now c.string_row-row.result.start c.string_row-row.result.size c.well_formed-2.ensures))))
