@@ -4,18 +4,15 @@ use mathlib.Core.Path.{◌≡◌, refl, sym, ap, ◌∙◌}
 use mathlib.Core.Bool.{Bool, true, false}
 use mathlib.Core.List.{List}
 use mathlib.Core.Option.{Option, none, some}
-use native.Mathlib.Omega.{arith}
-use native.Mathlib.Decide.{dec_le}
 use lib.ListN.{length}
 use borrow.Author.Tests.{lt-ltb, le-ltb}
 use Rattle.rules.specs.Syntax.{CompiledSchema}
 use Rattle.rules.specs.Image.{readable}
 use Rattle.rules.specs.Refusal.{Result, refusal}
 use Rattle.rules.specs.Answer.{Answer, refused, finished, answered, project_answer, signatures_answer}
-use Rattle.image_layout.specs.Rows.{Cut}
-use Rattle.image_layout.specs.Open.{Open}
-use Rattle.call_open.specs.declared.Front.{Front}
-use Rattle.call_open.specs.Fronts.{Fronts}
+use Rattle.std.specs.Prelude.{Err}
+use Rattle.call_open.specs.declared.Closed.{Closed}
+use Rattle.call_open.specs.Fronts.{number_of, Fronts}
 use Rattle.call_answer.specs.declared.Call.{Call}
 use Rattle.call_answer.specs.Calls.{call_of, answer_for}
 
@@ -44,34 +41,6 @@ module _ (call : CompiledSchema → Result (ℕ × List ℕ)) (image output deta
   when_readable h e = long h e
 
   -- 1 or 2
-  pub front_refused : {r : Front} → Fronts image (length detail) r → (r.number ≡ 0 → ⊥) → answered call image output detail ≡ refused (refusal r.number) output detail
-  front_refused {r} f n = by_room (dec_le 576 (length detail))
-    where
-      same : {k : ℕ} → r.number ≡ k → refused (refusal k) output detail ≡ refused (refusal r.number) output detail
-      same e = ap (λ (k : ℕ). refused (refusal k) output detail) (sym e)
-
-      by_reading : 576 ≤ length detail → (o : Option CompiledSchema) → readable image ≡ o → answered call image output detail ≡ refused (refusal r.number) output detail
-      by_reading h none e = long h e ∙ same (f.unread h e)
-      by_reading h (some s) e = absurd (n (f.opens h s e).0)
-
-      by_room : Dec (576 ≤ length detail) → answered call image output detail ≡ refused (refusal r.number) output detail
-      by_room (yes h) = by_reading h (readable image) refl
-      by_room (no h) = short (omega arith) ∙ same (f.short (omega arith)).0
-
--- neither 1 nor 2: there is room, and the layout opens the schema
-pub record Goes (image : List ℕ) (room : ℕ) (r : Front) : Type 0 where
-  pub room_enough : 576 ≤ room
-  pub schema : CompiledSchema
-  pub cut : Cut image r.layout
-  pub opened : Open image r.layout schema
-
-pub goes : {image : List ℕ} {room : ℕ} {r : Front} → Fronts image room r → r.number ≡ 0 → Goes image room r
-goes {image} {room} {r} f z = by_room (dec_le 576 room)
-  where
-    by_reading : 576 ≤ room → (o : Option CompiledSchema) → readable image ≡ o → Goes image room r
-    by_reading h none e = absurd (omega (arith, f.unread h e))
-    by_reading h (some s) e = let p = f.opens h s e in record { room_enough = h; schema = s; cut = p.1; opened = p.2 }
-
-    by_room : Dec (576 ≤ room) → Goes image room r
-    by_room (yes h) = by_reading h (readable image) refl
-    by_room (no h) = absurd (omega (arith, (f.short (omega arith)).0))
+  pub when_closed : (closed : Closed) → Fronts image (length detail) (Err closed) → answered call image output detail ≡ refused (refusal (number_of closed)) output detail
+  when_closed Closed.ShortDetail h = short h
+  when_closed Closed.Unreadable h = long h.0 h.1

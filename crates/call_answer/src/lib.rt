@@ -80,10 +80,8 @@ pub fn answer(
 ) -> Answer
     ensures { answer_of result output.new detail.new ≡ answer_for call image.now number.0 output.old detail.old }
 {
-    let f = call_open::look(image, detail.len());
-    if f.number != 0 {
-        return answers::answer::alone(f.number);
+    match call_open::look(image, detail.len()) {
+        Ok(l) => answer_readable(call, &l, number, output, detail),
+        Err(closed) => answers::answer::alone(closed.number()),
     }
-    let l = f.layout;
-    answer_readable(call, l, number, output, detail)
 }

@@ -45,12 +45,7 @@ pub fn expected_list(l: &Layout, at: usize, params: &[u32], out: &mut [u8]) -> O
 }
 
 // The functions of the trait at `start`, with its type parameters for the type arguments at `types`. 6 where these are not as many.
-pub fn expected_functions(
-    l: &Layout,
-    start: usize,
-    types: usize,
-    out: &mut [u8],
-) -> Outcome
+pub fn expected_functions(l: &Layout, start: usize, types: usize, out: &mut [u8]) -> Outcome
     requires { Cut l.now × Asked l.now start types }
     ensures { (a : Asked l.now start types) → Comes (in_words (expected_functions a.schema a.trait a.impl)) out.old out.new result }
 {

@@ -42,9 +42,7 @@ pub fn project_list(
     let mut i = 0;
     while i < count {
         let name = name_in(names, i);
-        let f = crate::one::project_one(
-            l, next, name, params, places, parts, out, limit, place,
-        );
+        let f = crate::one::project_one(l, next, name, params, places, parts, out, limit, place);
         if !f.ok {
             return f;
         }

@@ -13,13 +13,7 @@ use subst_params::ROW;
 // 9, then 10, then each function: of the trait at `start` with the type arguments at `types`, whose signatures are accepted.
 // One walk finds the places of the functions, for all three; the names and the functions are asked, and then their order tells.
 // The functions are gone through by the trait's names.
-fn project_tested(
-    l: &Layout,
-    start: usize,
-    types: usize,
-    parts: Parts,
-    out: &mut [u8],
-) -> Outcome
+fn project_tested(l: &Layout, start: usize, types: usize, parts: Parts, out: &mut [u8]) -> Outcome
     requires { Cut l.now × Wanted l.now start types }
     ensures { ProjectsTested l.now start types parts out.old out.new result }
 {
@@ -36,9 +30,7 @@ fn project_tested(
     let table = impl_rows::view::view(l, start + 1 + 1, types + 1, n);
     let params = &table[..ROW * n];
     let limit = out.len();
-    let listed = project_list(
-        l, asked, &wanted, params, places, parts, out, limit, 0,
-    );
+    let listed = project_list(l, asked, &wanted, params, places, parts, out, limit, 0);
     let r = project_outcome::first_refusal(tests, listed);
     if !r.ok {
         return r;

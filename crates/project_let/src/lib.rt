@@ -45,9 +45,7 @@ fn write_let(
 {
     let a = write_words::put_two(out, limit, to, StatementTag::LET, name.0);
     let b = write_words::put_type(out, limit, a, ty);
-    write_expr::write_expr(
-        l, ctx, names, words, lens, at, NESTING, ty, out, limit, b,
-    )
+    write_expr::write_expr(l, ctx, names, words, lens, at, NESTING, ty, out, limit, b)
 }
 
 // A Let. Of at most 32 parameters and 32 Lets each finds a row; a full table is passed over.
@@ -92,9 +90,7 @@ pub fn project_let(
         return Step { done, count };
     }
     let ty = r.ty;
-    let next = write_let(
-        l, ctx, names, words, lens, value, name, ty, out, limit, to,
-    );
+    let next = write_let(l, ctx, names, words, lens, value, name, ty, out, limit, to);
     locals::add_local(names, words, lens, count, name, ty);
     let done = answers::answer::accepted(next, 0);
     Step {

@@ -1,23 +1,21 @@
 -- `call_answer::answer` meets its contract. Assumes nothing.
-use mathlib.Core.Path.{sym, ◌∙◌}
+use Prim.Native.Nat.{ℕ}
+use mathlib.Core.Path.{sym, ap, ◌∙◌}
+use Rattle.rules.specs.Refusal.{refusal}
+use Rattle.rules.specs.Answer.{refused}
 use Rattle.call_answer.specs.Calls.{call_of}
-use Rattle.call_answer.proofs.Answered.{answer_is, when_readable, front_refused, goes}
+use Rattle.call_answer.proofs.Answered.{answer_is, when_readable, when_closed}
 use Rattle.call_answer.proofs.answer.Goals as goal
 
-pub returns-then-f-ne0 : goal.returns-then-f-ne0
-returns-then-f-ne0 c =
+pub returns-in-Ok : goal.returns-in-Ok
+returns-in-Ok c =
     let a = c.args in
-    let output = a.output.now in
-    let detail = a.detail.now in
-    c.alone.ensures detail output ∙ sym (answer_is a.call a.image.now a.number.0 output detail ∙ front_refused (call_of a.call a.number.0) a.image.now output detail c.look-f.ensures c.if-f-ne0.true)
+    let g = c.in-Ok.ensures.1 in
+    c.answer_readable.ensures g.schema g.opens ∙ sym (answer_is a.call a.image.now a.number.0 a.output.now a.detail.now ∙ when_readable (call_of a.call a.number.0) a.image.now a.output.now a.detail.now c.in-Ok.ensures.0 g.read)
 
-pub answer_readable-requires : goal.answer_readable-requires
-answer_readable-requires c = let g = goes c.look-f.ensures c.if-f-ne0.false in (g.cut, record { schema = g.schema; opened = g.opened }, g.room_enough)
-
-pub returns : goal.returns
-returns c =
+pub returns-in-Err : goal.returns-in-Err
+returns-in-Err c =
     let a = c.args in
-    let output = a.output.now in
-    let detail = a.detail.now in
-    let g = goes c.look-f.ensures c.if-f-ne0.false in
-    c.answer_readable.ensures g.schema g.opened ∙ sym (answer_is a.call a.image.now a.number.0 output detail ∙ when_readable (call_of a.call a.number.0) a.image.now output detail g.room_enough g.opened.read)
+    c.alone.ensures a.detail.now a.output.now
+    ∙ ap (λ (k : ℕ). refused (refusal k) a.output.now a.detail.now) c.number.ensures
+    ∙ sym (answer_is a.call a.image.now a.number.0 a.output.now a.detail.now ∙ when_closed (call_of a.call a.number.0) a.image.now a.output.now a.detail.now c.in-Err.closed c.in-Err.ensures)

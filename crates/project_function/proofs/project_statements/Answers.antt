@@ -9,7 +9,7 @@ use Rattle.project_function.proofs.Blocks.{started, returned, passed_refused, pa
 use Rattle.project_function.proofs.project_statements.Goals as goal
 
 pub loop-i-init : goal.loop-i-init
-loop-i-init c = (refl, refl, refl, refl, λ f i ss n r m b o. started _ _ _ o _ _ _ _ n f i ss r m b)
+loop-i-init c = (refl, refl, refl, refl, λ f i ss n r m b o. started _ _ o _ _ _ _ n f i ss r m b)
 
 pub project_return-requires : goal.project_return-requires
 project_return-requires c = (c.requires.0, omega (arith, c.loop-i.invariant.3, c.requires.1))

@@ -14,7 +14,7 @@ returns-then-not-done c =
     let m = c.written_type-w.ensures t _ (type_at s _ (λ k. c.first_part.ensures (omega arith))) in
     let says = c.infer_expr-r.ensures f i e n (let_value s _ m.1) t m.0 in
     let tested = let_tested f c.operand.result t e _ i.function _ (c.check_let-done.ensures _ _ _ _ i.locals) says in
-    let_refused _ _ _ _ _ _ f i (name_at s _ c.operand.ensures) t e tested (not-true _ c.if-not-done.true) refl
+    let_refused _ _ _ _ _ f i (name_at s _ c.operand.ensures) t e tested (not-true _ c.if-not-done.true) refl
 
 pub write_let-next-requires : goal.write_let-next-requires
 write_let-next-requires c = (c.requires.0, c.requires.1)
@@ -31,5 +31,5 @@ returns c =
     let m = c.written_type-w.ensures t _ (type_at s _ (λ k. c.first_part.ensures (omega arith))) in
     let says = c.infer_expr-r.ensures f i e n (let_value s _ m.1) t m.0 in
     let tested = let_tested f c.operand.result t e _ i.function _ (c.check_let-done.ensures _ _ _ _ i.locals) says in
-    let_entered _ _ _ _ _ _ f i (name_at s _ c.operand.ensures) t e tested (not-false _ c.if-not-done.false) _ says (λ v q w. c.write_let-next.ensures f i e n (let_value s _ m.1) t 3 v q w)
+    let_entered _ _ _ _ _ f i (name_at s _ c.operand.ensures) t e tested (not-false _ c.if-not-done.false) _ says (λ v q w. c.write_let-next.ensures f i e n (let_value s _ m.1) t 3 v q w)
     (λ u h. c.add_local.ensures _ f.locals u i.locals h) c.accepted-done-2.ensures.0 c.accepted-done-2.ensures.1 (omega arith)

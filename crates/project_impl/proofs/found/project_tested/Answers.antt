@@ -13,9 +13,6 @@ use Rattle.project_impl.proofs.found.project_tested.Goals as goal
 pub overflow_add-start : goal.overflow_add-start
 overflow_add-start c = omega (arith, start_small c.requires.0.inside c.requires.1.asked)
 
-pub section_word-n-requires : goal.section_word-n-requires
-section_word-n-requires c = c.requires.0.inside.pool
-
 pub overflow_add-asked : goal.overflow_add-asked
 overflow_add-asked c = omega (arith, start_small c.requires.0.inside c.requires.1.asked)
 
@@ -30,9 +27,6 @@ functions_start-functions-requires c = c.requires.0.inside
 
 pub function_places-found-requires : goal.function_places-found-requires
 function_places-found-requires c = c.requires.0.inside
-
-pub section_word-requires : goal.section_word-requires
-section_word-requires c = c.requires.0.inside.pool
 
 pub slice_bounds-found-end : goal.slice_bounds-found-end
 slice_bounds-found-end c = omega (arith, c.few-count.ensures.1)
