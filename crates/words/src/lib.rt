@@ -5,31 +5,19 @@ ghost use Rattle.std.specs.Prelude.{◌≡◌, ◌+◌, ◌≤◌, ◌<◌, leng
 ghost use Rattle.words.specs.Words.{word_at};
 ghost use Rattle.words.specs.Puts.{put};
 
-// A byte of the slice.
-fn byte(image: &[u8], i: usize) -> u32
-    requires { i < length image.now }
-    ensures { (result ≡ get_or image.now i 0) × (result < 256) }
-{
-    image[i] as u32
-}
-
 // The word at a byte's place, all inside: nothing is tested, so that the four bytes can be one load.
 pub fn whole_word(image: &[u8], at: usize) -> u32
     requires { at + 4 ≤ length image.now }
     ensures { result ≡ word_at image.now at }
 {
-    let a = byte(image, at);
-    let b = byte(image, at + 1);
-    let c = byte(image, at + 2);
-    let d = byte(image, at + 3);
-    a + 256 * b + 65536 * c + 16777216 * d
+    u32::from_le_bytes([image[at], image[at + 1], image[at + 2], image[at + 3]])
 }
 
 // The byte at i, or 0 past the end.
-fn byte_at(image: &[u8], i: usize) -> u32
-    ensures { (result ≡ get_or image.now i 0) × (result < 256) }
+fn byte_at(image: &[u8], i: usize) -> u8
+    ensures { result ≡ get_or image.now i 0 }
 {
-    if i < image.len() { image[i] as u32 } else { 0 }
+    image.get(i).copied().unwrap_or(0)
 }
 
 // The word at a byte's place; bytes past the end count as 0.
@@ -43,10 +31,12 @@ pub fn word_at(image: &[u8], at: usize) -> u32
     if 4 <= n - at {
         return whole_word(image, at);
     }
-    byte_at(image, at)
-        + 256 * byte_at(image, at + 1)
-        + 65536 * byte_at(image, at + 2)
-        + 16777216 * byte_at(image, at + 3)
+    u32::from_le_bytes([
+        byte_at(image, at),
+        byte_at(image, at + 1),
+        byte_at(image, at + 2),
+        byte_at(image, at + 3),
+    ])
 }
 
 // Writes a word where it ends at the limit or before, and says where the next goes.
@@ -55,10 +45,7 @@ pub fn put_word(out: &mut [u8], limit: usize, at: usize, w: u32) -> usize
     ensures { (result ≡ at + 4) × (out.new ≡ put limit at w out.old) }
 {
     if at + 4 <= limit {
-        out[at] = (w % 256) as u8;
-        out[at + 1] = (w / 256 % 256) as u8;
-        out[at + 2] = (w / 65536 % 256) as u8;
-        out[at + 3] = (w / 16777216 % 256) as u8;
+        out[at..at + 4].copy_from_slice(&w.to_le_bytes());
     }
     at + 4
 }

@@ -1,0 +1,40 @@
+-- A word put before a list whose words were moved one place on, and what is known of a run that grew where it lies. Assumes nothing.
+use Prim.Native.Nat.{ℕ, suc, ◌+◌, ◌<◌, ◌≤◌}
+use native.Mathlib.Omega.{arith}
+use native.Mathlib.Numerals.{add-one}
+use mathlib.Core.Path.{◌≡◌, refl, sym, ap, subst, ◌∙◌}
+use mathlib.Core.Bool.{Bool, false}
+use mathlib.Core.List.{List, [], ◌∷◌, ◌++◌}
+use lib.ListN.{length, take, drop, set, length-append, length-drop}
+use lib.Seq.{take_at, paste}
+use Rattle.std.specs.Prelude.{Option, Some, None}
+use Rattle.std.proofs.lemmas.List.Edits.{take-paste}
+use Rattle.type_words.specs.Runs.{Runs, Grows}
+use Rattle.type_words.specs.Lent.{lent}
+use Rattle.type_words.proofs.Runs.{counted, grown_run, grows_under}
+
+-- the first word is another
+front_set : (l m : List ℕ) (n w y : ℕ) → take (suc n) l ≡ y ∷ m → take (suc n) (set l 0 w) ≡ w ∷ m
+front_set [] m n w y e = absurd (omega (arith, ap length e))
+front_set (x ∷ l) m n w y e = ap (λ (t : List ℕ). w ∷ t) (ap (drop 1) e)
+
+pub moved_front : (word n k : ℕ) (words₀ words : List ℕ) → n < length words₀ → k ≡ n → words ≡ paste words₀ 1 words₀ k → take (n + 1) (set words 0 word) ≡ word ∷ take n words₀
+moved_front word n k [] words l q e = absurd (omega arith)
+moved_front word n k (y ∷ ys) words l q e =
+    let one : 1 + n ≡ suc n = omega arith in
+    rw (add-one n, e, q) (front_set (paste (y ∷ ys) 1 (y ∷ ys) n) (take n (y ∷ ys)) n word y (ap (λ (k : ℕ). take k (paste (y ∷ ys) 1 (y ∷ ys) n)) (sym one) ∙ take-paste (y ∷ ys) 1 (y ∷ ys) n (omega arith) (omega arith)))
+
+-- one that grew, and one that could not, with a word before it
+pub lent_run : {o : Option ℕ} {n : ℕ} (ws : List ℕ) {l : List ℕ} → o ≡ Some n → Grows l (lent o ws false) → take n ws ≡ l
+lent_run ws {l} e g = let h = subst (λ (o : Option ℕ). Grows l (lent o ws false)) e g in grown_run h refl
+
+pub lent_none : {o q : Option ℕ} (ws : List ℕ) {l : List ℕ} (p : Bool) (w : ℕ) → o ≡ None → q ≡ None → Grows l (lent o ws p) → Grows (w ∷ l) (lent q ws p)
+lent_none ws {l} p w e f g =
+    let h = subst (λ (o : Option ℕ). Grows l (lent o ws p)) e g in
+    subst (λ (o : Option ℕ). Grows (w ∷ l) (lent o ws p)) (sym f) (grows_under _ w l refl h)
+
+-- words written over the start of an array
+pub filled : (run ys xs : List ℕ) {p : Bool} → ys ≡ run → length xs ≡ 64 → length run ≤ 64 → Runs (record { words = ys ++ drop (length run) xs; len = length run; poison = p }) run
+filled run ys xs e w l =
+    let n : length ys ≡ length run = ap length e in
+    counted (ys ++ drop (length run) xs) run (length run) (omega (arith, length-append ys (drop (length run) xs), length-drop (length run) xs, n, w)) l (take_at ys (drop (length run) xs) (length run) n ∙ e)
