@@ -5,8 +5,11 @@ use native.Mathlib.Numerals.{add-one}
 use mathlib.Core.Path.{◌≡◌, refl, sym, ap, subst, ◌∙◌}
 use mathlib.Core.Bool.{Bool, false}
 use mathlib.Core.List.{List, [], ◌∷◌, ◌++◌}
-use lib.ListN.{length, take, drop, set, length-append, length-drop}
-use lib.Seq.{take_at, paste}
+use lib.ListN.{length, take, drop, set, get_or, get_or-append, length-append, length-drop}
+use lib.Seq.{take_at, paste, get_or-take, length-take-le}
+use borrow.Rule.Slice.PartMut.{put_mid, post_of}
+use Rattle.std.proofs.lemmas.Slice.{take-put_mid_below}
+use Rattle.std.proofs.lemmas.List.{get_or-append-add}
 use Rattle.std.specs.Prelude.{Option, Some, None}
 use Rattle.std.proofs.lemmas.List.Edits.{take-paste}
 use Rattle.type_words.specs.Runs.{Runs, Grows}
@@ -38,3 +41,15 @@ pub filled : (run ys xs : List ℕ) {p : Bool} → ys ≡ run → length xs ≡ 
 filled run ys xs e w l =
     let n : length ys ≡ length run = ap length e in
     counted (ys ++ drop (length run) xs) run (length run) (omega (arith, length-append ys (drop (length run) xs), length-drop (length run) xs, n, w)) l (take_at ys (drop (length run) xs) (length run) n ∙ e)
+
+-- a part of a list that was written: what stands before it stayed, and in it stands what was written
+pub put_kept : (a k : ℕ) (xs ys : List ℕ) → a ≤ length xs → (j : ℕ) → j < a → get_or (put_mid a k xs ys) j 0 ≡ get_or xs j 0
+put_kept a k xs ys h j l =
+    let front = take-put_mid_below a k xs ys a (omega arith) h in
+    sym (get_or-take a (put_mid a k xs ys) j 0 l) ∙ ap (λ (l : List ℕ). get_or l j 0) front ∙ get_or-take a xs j 0 l
+
+pub put_copied : (a k : ℕ) (xs ys : List ℕ) → a ≤ length xs → (j : ℕ) → j < length ys → get_or (put_mid a k xs ys) (a + j) 0 ≡ get_or ys j 0
+put_copied a k xs ys h j l =
+    let n : length (take a xs) ≡ a = length-take-le a xs h in
+    ap (λ (i : ℕ). get_or (put_mid a k xs ys) (i + j) 0) (sym n)
+    ∙ get_or-append-add (take a xs) (ys ++ post_of a k xs) j 0 ∙ get_or-append ys (post_of a k xs) 0 j l

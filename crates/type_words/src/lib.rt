@@ -44,7 +44,7 @@ impl HeldType {
     }
 
     // These few words.
-    fn of(run: &[u32], poison: bool) -> HeldType
+    pub(crate) fn of(run: &[u32], poison: bool) -> HeldType
         requires { length run.now ≤ 64 }
         ensures { Made result run.now poison }
     {
