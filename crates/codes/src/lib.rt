@@ -7,6 +7,7 @@ ghost use Rattle.rules.specs.Kinds.{type_kind, expr_kind, statement_kind, defini
 use rules::kinds::{DefinitionKind, ExprKind, StatementKind, TypeKind};
 use rules::tags::{ExprTag, StatementTag, TypeTag};
 
+#[tactic(auto, unfolding(rules::specs::Kinds::type_kind))]
 pub fn type_kind(code: u32) -> TypeKind
     ensures { result ≡ type_kind code }
 {
