@@ -65,24 +65,16 @@ impl Refusal {
     }
 
     // One detail word more.
-    pub fn word(self, w: u32) -> Refusal
+    pub fn word(mut self, w: u32) -> Refusal
         ensures { length (detail_of self) < 131 → refusal_of result ≡ adding (refusal_of self) (w ∷ []) }
     {
         let n = self.count;
         if DETAIL_WORDS <= n {
             return self;
         }
-        let mut words = self.words;
-        words[n] = w;
-        let function = self.function;
-        let second = self.second;
-        Refusal {
-            number: self.number,
-            function,
-            second,
-            words,
-            count: n + 1,
-        }
+        self.words[n] = w;
+        self.count = n + 1;
+        self
     }
 
     // A type's run behind the detail words.
