@@ -1,11 +1,11 @@
 -- Laws: writing words into a list of bytes, below a limit.
 use mathlib.Core.Path.{◌≡◌, refl, ap, ◌∙◌, sym}
-use Prim.Native.Nat.{ℕ, suc, ◌+◌, ◌*◌, ◌<◌, ◌≤◌}
+use Prim.Native.Nat.{ℕ, ◌+◌, ◌*◌, ◌<◌, ◌≤◌}
 use native.Mathlib.Omega.{arith}
 use native.Mathlib.Numerals.{add-one}
 use mathlib.Core.List.{List, [], ◌∷◌, ◌++◌, append_assoc}
-use lib.ListN.{length, get_or, take, drop, set, length-append, length-take, length-drop}
-use lib.Seq.{length-take-le, take-suc, sets-eq, take_at, drop-append-add, drop-drop, paste-zero}
+use lib.ListN.{length, get_or, take, drop, length-append, length-take, length-drop}
+use lib.Seq.{length-take-le, take-suc, take_at, drop-append-add, drop-drop, paste-zero}
 use native.Mathlib.Decide.{dec_le}
 use native.Mathlib.Nat.{lt_of_not-le}
 use borrow.Author.Tests.{le-leb, lt-leb}
@@ -17,8 +17,8 @@ use Rattle.words.proofs.Words.{length_bytes_of}
 use Rattle.words.specs.Puts.{splice, put, puts}
 
 -- a part of a slice that was written is a splice
-pub put_mid-splice : (at k : ℕ) (ys zs xs : List ℕ) → zs ≡ ys → k ≡ length ys → put_mid at k xs zs ≡ splice at ys xs
-put_mid-splice at k ys zs xs e l = put_mid-paste at k xs zs ys (length ys) e (sym l) refl ∙ paste_all xs at ys (length ys) refl ∙ sym (append_assoc (take at xs) ys (drop (at + length ys) xs))
+pub put_mid_splice : (at k : ℕ) (ys zs xs : List ℕ) → zs ≡ ys → k ≡ length ys → put_mid at k xs zs ≡ splice at ys xs
+put_mid_splice at k ys zs xs e l = put_mid-paste at k xs zs ys (length ys) e (sym l) refl ∙ paste_all xs at ys (length ys) refl ∙ sym (append_assoc (take at xs) ys (drop (at + length ys) xs))
 
 module _ (limit : ℕ) where
   -- a word that fits is a splice; one that does not changes nothing

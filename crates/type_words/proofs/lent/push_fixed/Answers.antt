@@ -1,6 +1,5 @@
 -- `type_words::lent::push_fixed` meets its contract: three words before the run, one after the other. Assumes nothing.
 use mathlib.Core.Bool.{false}
-use mathlib.Core.Path.{◌∙◌}
 use Rattle.type_words.proofs.Runs.{grows_behind}
 use Rattle.type_words.proofs.Moved.{lent_run, lent_none}
 use Rattle.type_words.proofs.lent.push_fixed.Goals as goal
