@@ -6,8 +6,7 @@ use mathlib.Core.List.{◌∷◌}
 use mathlib.Core.Option.{Option}
 use lib.Dec.{eqb}
 use Rattle.rules.specs.Syntax.{ResolvedType, run}
-use Rattle.rules.specs.Words.{within}
-use Rattle.rules.specs.Types.{BOOL, is_numeric, is_signed_numeric, is_equality_type, same_type}
+use Rattle.rules.specs.Types.{BOOL, is_signed_numeric, same_type}
 use Rattle.rules.specs.Refusal.{err, ensure, ◌>>=◌, with_detail}
 use Rattle.rules.specs.Infer.{PortableExprKind, FunctionContext, is_arithmetic, operand_allowed, unary_allowed, ended}
 use Rattle.infer_result.specs.Operators.{binary_end, unary_end}

@@ -28,12 +28,10 @@ fn argument(table: &[u32], at: usize) -> HeldType
 pub fn find_param(table: &[u32], x: NameId) -> MaybeType
     ensures { (names : ℕ) (ps : List (Param ResolvedType)) → Views names table.now 0 ps → MaybeHolds names result (find_param x.0 ps) }
 {
-    let mut at = 0;
-    while at < table.len() {
-        if table[at] == x.0 {
+    for at in (0..table.len()).step_by(ROW) {
+        if NameId(table[at]) == x {
             return MaybeType::some(argument(table, at));
         }
-        at += ROW;
     }
     MaybeType::none()
 }

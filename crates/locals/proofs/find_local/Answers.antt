@@ -1,5 +1,4 @@
 -- `locals::find_local` meets its contract. Assumes nothing.
-use native.Mathlib.Omega.{arith}
 use Rattle.locals.proofs.Finds.{searched, short}
 use Rattle.locals.proofs.find_local.Goals as goal
 

@@ -15,5 +15,5 @@ returns c =
     let new = c.copy_from_slice.ensures in
     let from : length a.other.words ≡ 64 = search rules in
     let wide = same_len_mid a.n _ a.words.now _ new.len ∙ c.requires.0 in
-    let put = take-put_mid a.n _ a.words.now _ _ (omega (arith, new.len, new.after)) (omega arith) in
+    let put = take-put_mid a.n _ a.words.now _ _ (omega (arith, new.len)) (omega arith) in
     (λ p. grown _ _ (counted _ _ _ wide (omega arith) (put ∙ ap (λ (l : List _). take a.n a.words.now ++ l) (new.after ∙ run_take a.other _ from c.count-m.ensures.0))), wide)
