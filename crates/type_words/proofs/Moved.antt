@@ -1,31 +1,18 @@
--- A word put before a list whose words were moved one place on, and what is known of a run that grew where it lies. Assumes nothing.
-use Prim.Native.Nat.{ℕ, suc, ◌+◌, ◌<◌, ◌≤◌}
+-- A run that grew where it lies, and a part of a list that was written. Assumes nothing.
+use Prim.Native.Nat.{ℕ, ◌+◌, ◌<◌, ◌≤◌}
 use native.Mathlib.Omega.{arith}
-use native.Mathlib.Numerals.{add-one}
 use mathlib.Core.Path.{◌≡◌, refl, sym, ap, subst, ◌∙◌}
 use mathlib.Core.Bool.{Bool, false}
-use mathlib.Core.List.{List, [], ◌∷◌, ◌++◌}
-use lib.ListN.{length, take, drop, set, get_or, get_or-append, length-append, length-drop}
-use lib.Seq.{take_at, paste, get_or-take, length-take-le}
+use mathlib.Core.List.{List, ◌∷◌, ◌++◌}
+use lib.ListN.{length, take, drop, get_or, get_or-append, length-append, length-drop}
+use lib.Seq.{take_at, get_or-take, length-take-le}
 use borrow.Rule.Slice.PartMut.{put_mid, post_of}
 use Rattle.std.proofs.lemmas.Slice.{take-put_mid_below}
 use Rattle.std.proofs.lemmas.List.{get_or-append-add}
 use Rattle.std.specs.Prelude.{Option, Some, None}
-use Rattle.std.proofs.lemmas.List.Edits.{take-paste}
 use Rattle.type_words.specs.Runs.{Runs, Grows}
 use Rattle.type_words.specs.Lent.{lent}
 use Rattle.type_words.proofs.Runs.{counted, grown_run, grows_under}
-
--- the first word is another
-front_set : (l m : List ℕ) (n w y : ℕ) → take (suc n) l ≡ y ∷ m → take (suc n) (set l 0 w) ≡ w ∷ m
-front_set [] m n w y e = absurd (omega (arith, ap length e))
-front_set (x ∷ l) m n w y e = ap (λ (t : List ℕ). w ∷ t) (ap (drop 1) e)
-
-pub moved_front : (word n k : ℕ) (words₀ words : List ℕ) → n < length words₀ → k ≡ n → words ≡ paste words₀ 1 words₀ k → take (n + 1) (set words 0 word) ≡ word ∷ take n words₀
-moved_front word n k [] words l q e = absurd (omega arith)
-moved_front word n k (y ∷ ys) words l q e =
-    let one : 1 + n ≡ suc n = omega arith in
-    rw (add-one n, e, q) (front_set (paste (y ∷ ys) 1 (y ∷ ys) n) (take n (y ∷ ys)) n word y (ap (λ (k : ℕ). take k (paste (y ∷ ys) 1 (y ∷ ys) n)) (sym one) ∙ take-paste (y ∷ ys) 1 (y ∷ ys) n (omega arith) (omega arith)))
 
 -- one that grew, and one that could not, with a word before it
 pub lent_run : {o : Option ℕ} {n : ℕ} (ws : List ℕ) {l : List ℕ} → o ≡ Some n → Grows l (lent o ws false) → take n ws ≡ l

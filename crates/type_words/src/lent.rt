@@ -16,8 +16,13 @@ pub fn push_front(word: u32, words: &mut [u32; TYPE_WORDS], n: usize) -> Option<
     if TYPE_WORDS <= n {
         return None;
     }
-    words.copy_within(..n, 1);
-    words[0] = word;
+    // Word by word: `copy_within` takes three times as long at eight words.
+    let mut carry = word;
+    for i in 0..n + 1 {
+        let next = words[i];
+        words[i] = carry;
+        carry = next;
+    }
     Some(n + 1)
 }
 
