@@ -1,7 +1,7 @@
 // What a call gives back beside its two lent buffers.
 ghost use Rattle.std.specs.Prelude.{◌≤◌, ◌≡◌, true, false, length};
 ghost use Rattle.answers.specs.Refusals.{refusal_of};
-ghost use Rattle.answers.specs.Answers.{Refuses, RefusesAlone, AcceptsAll, TooShort};
+ghost use Rattle.answers.specs.Answers.{Refuses, RefusesAlone, AcceptsAll, TooShort, Unnamed};
 
 use crate::refusal::Refusal;
 use rules::ids::NameId;
@@ -53,13 +53,7 @@ pub fn accepted(length: usize, visits: u32) -> Outcome
 pub fn alone(number: u32) -> Answer
     ensures { RefusesAlone result number }
 {
-    Answer {
-        number,
-        function: NameId::NONE,
-        second: NameId::NONE,
-        length: 0,
-        visits: 0,
-    }
+    unnamed(number, 0, 0)
 }
 
 // A refusal: it writes its detail words, and leaves the output as found.
@@ -68,12 +62,10 @@ pub fn refuse(detail: &mut [u8], r: Refusal) -> Answer
     ensures { Refuses result (refusal_of r) detail.old detail.new }
 {
     crate::refusal::write_detail(detail, r);
-    let function = r.function;
-    let second = r.second;
     Answer {
         number: r.number,
-        function,
-        second,
+        function: r.function,
+        second: r.second,
         length: 0,
         visits: 0,
     }
@@ -83,21 +75,22 @@ pub fn refuse(detail: &mut [u8], r: Refusal) -> Answer
 pub fn too_short(length: u32) -> Answer
     ensures { TooShort result length }
 {
-    Answer {
-        number: 24,
-        function: NameId::NONE,
-        second: NameId::NONE,
-        length,
-        visits: 0,
-    }
+    unnamed(24, length, 0)
 }
 
 // So many bytes are written.
 pub fn accept(length: u32, visits: u32) -> Answer
     ensures { AcceptsAll result length visits }
 {
+    unnamed(0, length, visits)
+}
+
+// An answer that names no function.
+fn unnamed(number: u32, length: u32, visits: u32) -> Answer
+    ensures { Unnamed result number length visits }
+{
     Answer {
-        number: 0,
+        number,
         function: NameId::NONE,
         second: NameId::NONE,
         length,

@@ -10,11 +10,9 @@ pub fn put_words(out: &mut [u8], at: usize, run: &[u32]) -> usize
     requires { (at ≤ 900000000) × (length run.now ≤ 1000) }
     ensures { Writes run.now at result out.old out.new }
 {
-    let mut i = 0;
     let mut next = at;
-    while i < run.len() {
-        next = writer::write(out, next, run[i]);
-        i += 1;
+    for &w in run {
+        next = writer::write(out, next, w);
     }
     next
 }
@@ -32,7 +30,5 @@ pub fn put_type(out: &mut [u8], at: usize, ty: HeldType) -> usize
     requires { at ≤ 900000000 }
     ensures { Writes (held_run ty) at result out.old out.new }
 {
-    let n = ty.count();
-    let run = ty.words;
-    put_words(out, at, &run[..n])
+    put_words(out, at, &ty.words[..ty.count()])
 }

@@ -65,36 +65,25 @@ impl Refusal {
     }
 
     // One detail word more.
-    pub fn word(self, w: u32) -> Refusal
+    pub fn word(mut self, w: u32) -> Refusal
         ensures { length (detail_of self) < 131 → refusal_of result ≡ adding (refusal_of self) (w ∷ []) }
     {
         let n = self.count;
         if DETAIL_WORDS <= n {
             return self;
         }
-        let mut words = self.words;
-        words[n] = w;
-        let function = self.function;
-        let second = self.second;
-        Refusal {
-            number: self.number,
-            function,
-            second,
-            words,
-            count: n + 1,
-        }
+        self.words[n] = w;
+        self.count = n + 1;
+        self
     }
 
     // A type's run behind the detail words.
     pub fn run(self, ty: HeldType) -> Refusal
         ensures { (length (held_run ty) ≤ 64) × (length (detail_of self) + length (held_run ty) ≤ 131 → refusal_of result ≡ adding (refusal_of self) (held_run ty)) }
     {
-        let n = ty.count();
-        let mut i = 0;
         let mut r = self;
-        while i < n {
-            r = r.word(ty.word(i));
-            i += 1;
+        for &w in &ty.words[..ty.count()] {
+            r = r.word(w);
         }
         r
     }
@@ -103,8 +92,7 @@ impl Refusal {
     pub fn size(self) -> usize
         ensures { (result ≡ length (detail_of self)) × (result ≤ 131) }
     {
-        let n = self.count;
-        if n < DETAIL_WORDS { n } else { DETAIL_WORDS }
+        self.count.min(DETAIL_WORDS)
     }
 }
 
@@ -113,7 +101,5 @@ pub fn write_detail(detail: &mut [u8], r: Refusal)
     requires { 576 ≤ length detail.old }
     ensures { detail.new ≡ over_start (bytes_of (detail_of r)) detail.old }
 {
-    let n = r.size();
-    let run = r.words;
-    crate::output::put_words(detail, 0, &run[..n]);
+    crate::output::put_words(detail, 0, &r.words[..r.size()]);
 }

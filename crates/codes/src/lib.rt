@@ -7,6 +7,7 @@ ghost use Rattle.rules.specs.Kinds.{type_kind, expr_kind, statement_kind, defini
 use rules::kinds::{DefinitionKind, ExprKind, StatementKind, TypeKind};
 use rules::tags::{ExprTag, StatementTag, TypeTag};
 
+#[tactic(auto, unfolding(rules::specs::Kinds::type_kind))]
 pub fn type_kind(code: u32) -> TypeKind
     ensures { result ≡ type_kind code }
 {
@@ -24,64 +25,48 @@ pub fn type_kind(code: u32) -> TypeKind
     }
 }
 
+#[tactic(auto, unfolding(rules::specs::Kinds::expr_kind))]
 pub fn expr_kind(code: u32) -> ExprKind
     ensures { result ≡ expr_kind code }
 {
-    if code < ExprTag::FLAG {
-        ExprKind::Literal
-    } else if code == ExprTag::FLAG {
-        ExprKind::Flag
-    } else if code == ExprTag::TEXT {
-        ExprKind::Text
-    } else if code == ExprTag::LOCAL {
-        ExprKind::Local
-    } else if code == ExprTag::SELF_REF {
-        ExprKind::SelfRef
-    } else if code == ExprTag::FIELD_ACCESS {
-        ExprKind::FieldAccess
-    } else if code == ExprTag::CALL {
-        ExprKind::Call
-    } else if code == ExprTag::TRAIT_METHOD_CALL {
-        ExprKind::TraitMethodCall
-    } else if code == ExprTag::BINARY {
-        ExprKind::Binary
-    } else if code == ExprTag::UNARY {
-        ExprKind::Unary
-    } else {
-        ExprKind::Unknown
+    match code {
+        0..=2 => ExprKind::Literal,
+        ExprTag::FLAG => ExprKind::Flag,
+        ExprTag::TEXT => ExprKind::Text,
+        ExprTag::LOCAL => ExprKind::Local,
+        ExprTag::SELF_REF => ExprKind::SelfRef,
+        ExprTag::FIELD_ACCESS => ExprKind::FieldAccess,
+        ExprTag::CALL => ExprKind::Call,
+        ExprTag::TRAIT_METHOD_CALL => ExprKind::TraitMethodCall,
+        ExprTag::BINARY => ExprKind::Binary,
+        ExprTag::UNARY => ExprKind::Unary,
+        _ => ExprKind::Unknown,
     }
 }
 
+#[tactic(auto, unfolding(rules::specs::Kinds::statement_kind))]
 pub fn statement_kind(code: u32) -> StatementKind
     ensures { result ≡ statement_kind code }
 {
-    if code == StatementTag::EXPR {
-        StatementKind::Expr
-    } else if code == StatementTag::LET {
-        StatementKind::Let
-    } else if code == StatementTag::RETURN {
-        StatementKind::Return
-    } else if code == StatementTag::ASSIGN {
-        StatementKind::Assign
-    } else {
-        StatementKind::Unknown
+    match code {
+        StatementTag::EXPR => StatementKind::Expr,
+        StatementTag::LET => StatementKind::Let,
+        StatementTag::RETURN => StatementKind::Return,
+        StatementTag::ASSIGN => StatementKind::Assign,
+        _ => StatementKind::Unknown,
     }
 }
 
+#[tactic(auto, unfolding(rules::specs::Kinds::definition_kind))]
 pub fn definition_kind(code: u32) -> DefinitionKind
     ensures { result ≡ definition_kind code }
 {
-    if code == 0 {
-        DefinitionKind::Other
-    } else if code == 1 {
-        DefinitionKind::Message
-    } else if code == 2 {
-        DefinitionKind::GenericAlias
-    } else if code == 3 {
-        DefinitionKind::Trait
-    } else if code == 4 {
-        DefinitionKind::Implementation
-    } else {
-        DefinitionKind::Unknown
+    match code {
+        0 => DefinitionKind::Other,
+        1 => DefinitionKind::Message,
+        2 => DefinitionKind::GenericAlias,
+        3 => DefinitionKind::Trait,
+        4 => DefinitionKind::Implementation,
+        _ => DefinitionKind::Unknown,
     }
 }

@@ -6,28 +6,16 @@ use mathlib.Core.List.{◌∷◌}
 use mathlib.Core.Option.{Option}
 use lib.Dec.{eqb}
 use Rattle.rules.specs.Syntax.{ResolvedType, run}
-use Rattle.rules.specs.Words.{within}
-use Rattle.rules.specs.Types.{BOOL, is_numeric, is_signed_numeric, is_equality_type, same_type}
+use Rattle.rules.specs.Types.{BOOL, is_signed_numeric, same_type}
 use Rattle.rules.specs.Refusal.{err, ensure, ◌>>=◌, with_detail}
 use Rattle.rules.specs.Infer.{PortableExprKind, FunctionContext, is_arithmetic, operand_allowed, unary_allowed, ended}
 use Rattle.infer_result.specs.Operators.{binary_end, unary_end}
 
 -- which types an operator takes
-abbrev by_equality : ResolvedType → Bool → Bool
-by_equality t b = elim b as (λ _. Bool) [ true ↦ is_equality_type t | false ↦ is_numeric t ]
-
 abbrev by_sign : ResolvedType → Bool → Bool
 by_sign t b = elim b as (λ _. Bool) [ true ↦ is_signed_numeric t | false ↦ same_type t BOOL ]
 
 module _ (op : ℕ) (t : ResolvedType) where
-  pub allowed_equality : within 4 5 op ≡ true → operand_allowed op t ≡ is_equality_type t
-  unfolding operand_allowed
-  allowed_equality e = ap (by_equality t) e
-
-  pub allowed_numeric : within 4 5 op ≡ false → operand_allowed op t ≡ is_numeric t
-  unfolding operand_allowed
-  allowed_numeric e = ap (by_equality t) e
-
   pub allowed_signed : eqb op 0 ≡ true → unary_allowed op t ≡ is_signed_numeric t
   unfolding unary_allowed
   allowed_signed e = ap (by_sign t) e

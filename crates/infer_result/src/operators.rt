@@ -12,13 +12,14 @@ use type_tests::{is_equality_type, is_numeric, is_signed_numeric, same_type};
 use type_words::{HeldType, MaybeType};
 
 // == and != take equality types, the others numeric ones.
+#[tactic(auto, unfolding(rules::specs::Infer::operand_allowed, rules::specs::Words::within))]
 pub fn operand_allowed(op: u32, ty: HeldType) -> bool
     ensures { Each ty (λ t. result ≡ operand_allowed op t) }
 {
-    if (4 <= op) & (op <= 5) {
-        return is_equality_type(ty);
+    match op {
+        4 | 5 => is_equality_type(ty),
+        _ => is_numeric(ty),
     }
-    is_numeric(ty)
 }
 
 // Neg wants signed numeric, Not wants bool.

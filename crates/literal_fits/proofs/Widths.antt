@@ -2,15 +2,16 @@
 use Prim.Native.Nat.{ℕ, ◌-◌, ◌/◌, ◌*◌, ◌^◌, ◌≤◌, ◌<◌}
 use native.Mathlib.Nat.{div-eq_of_lt, div-lt_iff_lt-mul, lt_of_lt_of_le}
 use native.Mathlib.Omega.{arith}
-use mathlib.Core.Path.{◌≡◌, refl, sym, ◌∙◌}
-use mathlib.Core.Bool.{Bool, true, false}
-use lib.Dec.{ltb, eqb}
+use native.Mathlib.Decide.{dec_lt}
+use mathlib.Core.Path.{◌≡◌, refl, sym, ap, ◌∙◌}
+use mathlib.Core.Bool.{Bool, true, false, cond, not, ◌&&◌}
+use lib.Dec.{ltb, leb, eqb}
 use lib.Pow.{pow_pos, pow_mono}
-use lib.IntN.{ℤ, pos}
+use lib.IntN.{ℤ, pos, negsuc}
 use lib.Signed.{mag}
-use borrow.Author.Tests.{lt-ltb, le-ltb, eq-eqb, ne_eqb, ltb-true, ltb-false}
+use borrow.Author.Tests.{lt-ltb, le-ltb, eq-eqb, ne_eqb, ltb-true, ltb-false, le-leb, lt-leb}
 use Rattle.rules.specs.Fits.{takes, int_of}
-use Rattle.laws.proofs.Widths.{takes_signed, takes_unsigned, mag_int_of, takes_unsigned_int}
+use Rattle.laws.proofs.Widths.{takes_signed, takes_unsigned, mag_int_of, takes_unsigned_neg}
 use Rattle.literal_fits.specs.declared.Range.{Range}
 use Rattle.literal_fits.specs.Ranges.{range}
 
@@ -34,18 +35,30 @@ positive n h = sym (mag_int_of n ∙ rw (lt-ltb n (2 ^ 63) h))
 pub negative : (n : ℕ) → 2 ^ 63 ≤ n → 2 ^ 64 - 1 - n ≡ mag (int_of n)
 negative n h = sym (mag_int_of n ∙ rw (le-ltb n (2 ^ 63) h))
 
--- at every width
-pub signed_fit : (z : ℤ) {q : Range} {n m k : ℕ} {b : Bool} → q ≡ Range.Signed n → m ≡ mag z → k ≡ n - 1 → b ≡ ltb m (2 ^ k) → b ≡ takes (range q) z
-signed_fit z {n = n} eq em ek eb = rw (eq, takes_signed n z, ← em, ← ek) eb
+-- that integer, by its magnitude and its sign
+is_pos : (n : ℕ) → n < 2 ^ 63 → int_of n ≡ pos n
+unfolding int_of
+is_pos n h = rw (lt-ltb n (2 ^ 63) h)
 
-pub unsigned_fit : (x : ℕ) {q : Range} {n : ℕ} {b : Bool} → q ≡ Range.Unsigned n → b ≡ ltb x (2 ^ n) → b ≡ takes (range q) (pos x)
-unsigned_fit x {n = n} eq eb = rw (eq, takes_unsigned n x) eb
+is_neg : (n : ℕ) → 2 ^ 63 ≤ n → int_of n ≡ negsuc (2 ^ 64 - 1 - n)
+unfolding int_of
+is_neg n h = rw (le-ltb n (2 ^ 63) h)
 
-pub unsigned_positive : (x : ℕ) {q : Range} {n : ℕ} {b : Bool} → q ≡ Range.Unsigned n → x < 2 ^ 63 → b ≡ ltb x (2 ^ n) → b ≡ takes (range q) (int_of x)
-unsigned_positive x {n = n} eq h eb = rw (eq, takes_unsigned_int n x, lt-ltb x (2 ^ 63) h) eb
+pub signed_mag : (n m : ℕ) → m ≡ mag (int_of n) → cond (leb (2 ^ 63) n) (negsuc m) (pos m) ≡ int_of n
+signed_mag n m e = go (dec_lt n (2 ^ 63))
+  where
+    go : Dec (n < 2 ^ 63) → cond (leb (2 ^ 63) n) (negsuc m) (pos m) ≡ int_of n
+    go (yes h) = rw (lt-leb (2 ^ 63) n h) (ap pos (e ∙ sym (positive n h)) ∙ sym (is_pos n h))
+    go (no h) = let l : 2 ^ 63 ≤ n = omega arith in rw (le-leb (2 ^ 63) n l) (ap negsuc (e ∙ sym (negative n l)) ∙ sym (is_neg n l))
 
-pub unsigned_negative : (x : ℕ) {q : Range} {n : ℕ} → q ≡ Range.Unsigned n → 2 ^ 63 ≤ x → false ≡ takes (range q) (int_of x)
-unsigned_negative x {n = n} eq h = rw (eq, takes_unsigned_int n x, le-ltb x (2 ^ 63) h)
+-- at every width, of an integer by its magnitude and its sign
+pub signed_fit : (negative : Bool) (m : ℕ) {q : Range} {n k : ℕ} {b : Bool} → q ≡ Range.Signed n → k ≡ n - 1 → b ≡ ltb m (2 ^ k) → b ≡ takes (range q) (cond negative (negsuc m) (pos m))
+signed_fit true m {n = n} eq ek eb = rw (eq, takes_signed n (negsuc m), ← ek) eb
+signed_fit false m {n = n} eq ek eb = rw (eq, takes_signed n (pos m), ← ek) eb
+
+pub unsigned_fit : (negative : Bool) (m : ℕ) {q : Range} {n : ℕ} {b : Bool} → q ≡ Range.Unsigned n → b ≡ ltb m (2 ^ n) → (not negative && b) ≡ takes (range q) (cond negative (negsuc m) (pos m))
+unsigned_fit true m {n = n} eq eb = rw (eq, takes_unsigned_neg n m)
+unsigned_fit false m {n = n} eq eb = rw (eq, takes_unsigned n m) eb
 
 pub any_fit : (z : ℤ) {q : Range} → q ≡ Range.Any → true ≡ takes (range q) z
 unfolding takes

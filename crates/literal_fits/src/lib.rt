@@ -1,12 +1,12 @@
 // Which literals a type takes. An i64 enters as its bits.
 #![tactic(auto)]
 
-ghost use Rattle.std.specs.Prelude.{◌≡◌, ℕ, ◌-◌, ◌^◌, ltb, pos};
+ghost use Rattle.std.specs.Prelude.{◌≡◌, ℕ, ◌-◌, ◌^◌, cond, ltb, pos, negsuc};
 ghost use Rattle.std.specs.Int.Signed.{mag};
 ghost use Rattle.rules.specs.Fits.{takes, range_of, int_of, int_fits, uint_fits};
 ghost use Rattle.type_words.specs.Holds.{Each, EachMaybe, MaybeHolds};
 ghost use Rattle.literal_fits.specs.Ranges.{range};
-ghost use Rattle.literal_fits.specs.Literals.{literal_type};
+ghost use Rattle.literal_fits.specs.Literals.{literal_type, LiteralType};
 
 use rules::ids::PrimitiveType;
 use rules::tags::TypeTag;
@@ -31,41 +31,33 @@ pub enum Range {
 pub fn literal_int_type(bits: u64, expected: MaybeType) -> MaybeType
     ensures { EachMaybe expected (λ names o. MaybeHolds names result (literal_type 0 bits o)) }
 {
-    if expected.some {
-        let ty = expected.ty;
-        return MaybeType {
-            some: int_fits(bits, ty),
-            ty,
-        };
-    }
-    MaybeType::some(HeldType::plain(PrimitiveType::I64))
+    literal_type(expected, int_fits(bits, expected.ty), PrimitiveType::I64)
 }
 
 pub fn literal_uint_type(bits: u64, expected: MaybeType) -> MaybeType
     ensures { EachMaybe expected (λ names o. MaybeHolds names result (literal_type 1 bits o)) }
 {
-    if expected.some {
-        let ty = expected.ty;
-        return MaybeType {
-            some: uint_fits(bits, ty),
-            ty,
-        };
-    }
-    MaybeType::some(HeldType::plain(PrimitiveType::U64))
+    literal_type(expected, uint_fits(bits, expected.ty), PrimitiveType::U64)
 }
 
 // Of every float's bits.
 pub fn literal_float_type(expected: MaybeType) -> MaybeType
     ensures { EachMaybe expected (λ names o. (bits : ℕ) → MaybeHolds names result (literal_type 2 bits o)) }
 {
+    literal_type(expected, is_float(expected.ty), PrimitiveType::F64)
+}
+
+// The expected type if the literal fits it, and the literal's own primitive with none expected.
+fn literal_type(expected: MaybeType, fits: bool, own: u32) -> MaybeType
+    ensures { LiteralType expected fits own result }
+{
     if expected.some {
-        let ty = expected.ty;
         return MaybeType {
-            some: is_float(ty),
-            ty,
+            some: fits,
+            ty: expected.ty,
         };
     }
-    MaybeType::some(HeldType::plain(PrimitiveType::F64))
+    MaybeType::some(HeldType::plain(own))
 }
 
 pub fn int_fits(bits: u64, ty: HeldType) -> bool
@@ -112,26 +104,23 @@ pub fn range_of(ty: HeldType) -> Range
 pub fn int_in(bits: u64, taken: Range) -> bool
     ensures { result ≡ takes (range taken) (int_of bits) }
 {
-    match taken {
-        Range::Signed(width) => below_power(magnitude(bits), shift(width)),
-        Range::Unsigned(width) => {
-            if bits < NEGATIVE {
-                return below_power(bits, width);
-            }
-            false
-        }
-        Range::Any => true,
-        Range::Nothing => false,
-    }
+    takes(taken, magnitude(bits), NEGATIVE <= bits)
 }
 
 // Whether a range takes an unsigned integer.
 pub fn uint_in(bits: u64, taken: Range) -> bool
     ensures { result ≡ takes (range taken) (pos bits) }
 {
+    takes(taken, bits, false)
+}
+
+// Whether a range takes n, or -(n + 1).
+fn takes(taken: Range, n: u64, negative: bool) -> bool
+    ensures { result ≡ takes (range taken) (cond negative (negsuc n) (pos n)) }
+{
     match taken {
-        Range::Signed(width) => below_power(bits, shift(width)),
-        Range::Unsigned(width) => below_power(bits, width),
+        Range::Signed(width) => below_power(n, shift(width)),
+        Range::Unsigned(width) => !negative & below_power(n, width),
         Range::Any => true,
         Range::Nothing => false,
     }
@@ -148,10 +137,7 @@ pub fn magnitude(bits: u64) -> u64
 pub fn shift(width: u32) -> u32
     ensures { result ≡ width - 1 }
 {
-    if width == 0 {
-        return 0;
-    }
-    width - 1
+    width.saturating_sub(1)
 }
 
 // Whether x is below 2 to the power k.

@@ -3,8 +3,9 @@ use Prim.Native.Nat.{ℕ, ◌+◌, ◌*◌, ◌<◌, ◌≤◌}
 use native.Mathlib.Omega.{arith}
 use mathlib.Core.Path.{◌≡◌, sym, ap, ap₂, subst, ◌∙◌}
 use mathlib.Core.List.{List, [], ◌∷◌, ◌++◌}
-use borrow.Author.Count.{below_more}
-use lib.ListN.{length, get_or, set, length-set}
+use lib.ListN.{length, get_or, set, drop, length-set, length-take, length-drop}
+use borrow.Rule.Slice.PartMut.{put_mid, same_len_mid}
+use Rattle.type_words.proofs.Moved.{put_kept, put_copied}
 use lib.Seq.{get_or-set_same, get_or-set_other}
 use Rattle.rules.specs.Syntax.{ResolvedType, run, Param}
 use Rattle.type_words.specs.declared.HeldType.{HeldType}
@@ -15,26 +16,17 @@ use Rattle.type_words.proofs.Runs.{run_word}
 use Rattle.locals.specs.Rows.{Row, Rows}
 use Rattle.locals.specs.Adds.{Filled}
 
--- in a loop: k words stand in row i, and the words of the rows before it stayed
-pub record Filling (before from : List ℕ) (i : ℕ) (after : List ℕ) (k : ℕ) : Type 0 where
-  pub size : length after ≡ length before
-  pub room : 64 * i + 64 ≤ length before
-  pub kept : (j : ℕ) → j < 64 * i → get_or after j 0 ≡ get_or before j 0
-  pub copied : (j : ℕ) → j < k → get_or after (64 * i + j) 0 ≡ get_or from j 0
-
-pub filling_more : (before from : List ℕ) (i : ℕ) (after : List ℕ) (k : ℕ) → k < 64 → Filling before from i after k → Filling before from i (set after (64 * i + k) (get_or from k 0)) (k + 1)
-filling_more before from i after k l f = record {
-  size = length-set after (64 * i + k) (get_or from k 0) ∙ f.size;
-  room = f.room;
-  kept = λ j m. get_or-set_other after (64 * i + k) j (get_or from k 0) 0 (λ q. omega arith) ∙ f.kept j m;
-  copied =
-      below_more (λ (j : ℕ). get_or (set after (64 * i + k) (get_or from k 0)) (64 * i + j) 0 ≡ get_or from j 0) k
-      (λ j m. get_or-set_other after (64 * i + k) (64 * i + j) (get_or from k 0) 0 (λ q. omega arith) ∙ f.copied j m)
-      (get_or-set_same after (64 * i + k) (get_or from k 0) 0 (omega (arith, f.size, f.room)));
-}
-
-pub filled : (before after : List ℕ) (i k : ℕ) (h : HeldType) → 64 ≤ k → Filling before h.words i after k → Filled before after i h
-filled before after i k h l f = record { size = f.size; room = f.room; kept = f.kept; copied = λ j m s. run_word h j m ∙ sym (f.copied j (omega arith)) }
+-- a row that was copied
+pub filled : (before ys : List ℕ) (i k : ℕ) (h : HeldType) → length h.words ≡ 64 → k ≡ 64 → 64 * i + 64 ≤ length before → ys ≡ h.words → Filled before (put_mid (64 * i) k before ys) i h
+filled before ys i k h wide all room e =
+    let start : 64 * i ≤ length before = omega arith in
+    let n : length ys ≡ 64 = ap length e ∙ wide in
+    record {
+      size = same_len_mid (64 * i) k before ys (omega (arith, n, all, room, length-take k (drop (64 * i) before), length-drop (64 * i) before));
+      room = room;
+      kept = put_kept (64 * i) k before ys start;
+      copied = λ j m s. run_word h j m ∙ ap (λ (l : List ℕ). get_or l j 0) (sym e) ∙ sym (put_copied (64 * i) k before ys start j (omega (arith, n)));
+    }
 
 module _ (rows : ℕ) (names words words' lens : List ℕ) (i x n : ℕ) (h : HeldType) (f : Filled words words' i h) where
   row_kept : (k : ℕ) (p : Param ResolvedType) → k < i → Row rows names words lens k p → Row rows (set names i x) words' (set lens i n) k p

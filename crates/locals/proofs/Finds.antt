@@ -2,11 +2,14 @@
 use Prim.Native.Nat.{ℕ, ◌+◌, ◌<◌, ◌≤◌}
 use native.Mathlib.Omega.{arith}
 use native.Mathlib.Decide.{dec_le}
-use mathlib.Core.Path.{◌≡◌, refl, sym, ap, subst, ◌∙◌}
+use mathlib.Core.Path.{◌≡◌, refl, sym, subst, ◌∙◌}
 use mathlib.Core.Bool.{true, false}
 use mathlib.Core.List.{List, [], ◌∷◌}
 use mathlib.Core.Option.{none, some}
-use lib.ListN.{length, get_or}
+use lib.ListN.{length, get_or, take}
+use lib.Seq.{get_or-take, length-take-le}
+use Rattle.std.specs.Prelude.{◌≢◌, Option, Some, None, IsNone, IfSome, unwrap_or}
+use Rattle.std.specs.List.{AllWithin, HoldsAt}
 use borrow.Author.Tests.{eq-eqb, ne_eqb}
 use Rattle.rules.specs.Syntax.{ResolvedType, Param}
 use Rattle.rules.specs.Options.{or_else}
@@ -32,14 +35,6 @@ last_later x p ps t e = rw e
 -- no row from i on has the name x
 abbrev pub Apart : List ℕ → ℕ → ℕ → ℕ → Type 0
 Apart names count x i = (k : ℕ) → i ≤ k → k < count → get_or names k 0 ≡ x → ⊥
-
--- one row more
-pub apart_more : (names : List ℕ) (count x i : ℕ) → (get_or names i 0 ≡ x → ⊥) → Apart names count x (i + 1) → Apart names count x i
-apart_more names count x i n a k l m = go (dec_le k i)
-  where
-    go : Dec (k ≤ i) → get_or names k 0 ≡ x → ⊥
-    go (yes h) e = let q : k ≡ i = omega arith in n (ap (λ (j : ℕ). get_or names j 0) (sym q) ∙ e)
-    go (no h) e = a k (omega arith) m e
 
 module _ (rows : ℕ) (names words lens : List ℕ) (count x : ℕ) where
   pub inside : (i : ℕ) (ps : List (Param ResolvedType)) → Rows rows names words lens count i ps → i ≤ count → (count ≡ i → ⊥) → count ≤ length names
@@ -88,6 +83,19 @@ module _ (rows : ℕ) (names words lens : List ℕ) (count x : ℕ) where
   -- a table with fewer names than the count has no rows, and the count is 0
   pub short : (ps : List (Param ResolvedType)) → Rows rows names words lens count 0 ps → length names < count → ⊥
   short ps w l = let h : count ≤ length names = inside 0 ps w (omega arith) (λ e. omega arith) in omega arith
+
+  -- of the first count names, by the last place that code found
+  pub searched : (ps : List (Param ResolvedType)) → Rows rows names words lens count 0 ps → count ≤ length names → (o : Option ℕ)
+      → (IsNone o → AllWithin (λ (n : ℕ). n ≢ x) (take count names) 0 (length (take count names)))
+      → IfSome o (λ i. (i < length (take count names)) × HoldsAt (λ (n : ℕ). n ≡ x) (take count names) i × AllWithin (λ (n : ℕ). n ≢ x) (take count names) (i + 1) (length (take count names)))
+      → {r : ℕ} → r ≡ unwrap_or o count → Last rows names words lens count x ps r
+  searched ps w l None gone there e =
+      let n : length (take count names) ≡ count = length-take-le count names l in
+      rw e (search_none ps w (λ k g h m. gone refl k 0 (omega arith) (omega (arith, n)) (get_or-take count names k 0 h ∙ m)))
+  searched ps w l (Some i) gone there e =
+      let n : length (take count names) ≡ count = length-take-le count names l in
+      let h : i < count = omega (arith, n, there.0) in
+      rw e (search_found ps w i h (sym (get_or-take count names i 0 h) ∙ there.1 0) (λ k g h m. there.2 k 0 g (omega (arith, n)) (get_or-take count names k 0 h ∙ m)))
 
 -- the type of the last, held or none
 module _ {rows : ℕ} {names words lens : List ℕ} {count x : ℕ} {ps : List (Param ResolvedType)} {r : ℕ} (w : Last rows names words lens count x ps r) (m : MaybeType) where

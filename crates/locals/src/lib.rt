@@ -2,7 +2,8 @@
 // its type (`type_words::notes`).
 #![tactic(auto)]
 
-ghost use Rattle.std.specs.Prelude.{ℕ, ◌<◌, ◌≤◌, List, length};
+ghost use Rattle.std.specs.Prelude.{ℕ, ◌+◌, ◌<◌, ◌≤◌, ◌≡◌, ◌≢◌, List, length, IsNone, IfSome};
+ghost use Rattle.std.specs.List.{AllWithin, HoldsAt};
 ghost use Rattle.rules.specs.Syntax.{ResolvedType, Param};
 ghost use Rattle.rules.specs.Infer.{find_last};
 ghost use Rattle.type_words.specs.Holds.{Holds, MaybeHolds};
@@ -12,11 +13,19 @@ ghost use Rattle.locals.specs.Clauses.{FindsLocal, AddsLocal};
 
 use rules::bounds::{LOCAL_ROWS, TYPE_WORDS};
 use rules::ids::NameId;
-use type_words::notes::{note_of, noted_count, noted_poison};
+use type_words::notes::{note_of, noted_type};
 use type_words::{HeldType, MaybeType};
 
 // The words of all rows.
 pub const LOCAL_WORDS: usize = LOCAL_ROWS * TYPE_WORDS;
+
+// The last place of this name.
+fn last_place(names: &[u32], x: NameId) -> Option<usize>
+    ensures none { IsNone result → AllWithin (λ name. name ≢ x.0) names.now 0 (length names.now) }
+    ensures some { IfSome result (λ i. (i < length names.now) × HoldsAt (λ name. name ≡ x.0) names.now i × AllWithin (λ name. name ≢ x.0) names.now (i + 1) (length names.now)) }
+{
+    names.iter().rposition(|&name| NameId(name) == x)
+}
 
 // The row of the last local of this name, or the count where there is none.
 pub fn find_local(names: &[u32], count: usize, x: NameId) -> usize
@@ -25,46 +34,21 @@ pub fn find_local(names: &[u32], count: usize, x: NameId) -> usize
     if names.len() < count {
         return count;
     }
-    let mut i = count;
-    while 0 < i {
-        let j = i - 1;
-        if names[j] == x.0 {
-            return j;
-        }
-        i = j;
-    }
-    count
+    last_place(&names[..count], x).unwrap_or(count)
 }
 
 // The type that a row holds.
 pub fn local_type(words: &[u32], lens: &[u32], i: usize) -> HeldType
     ensures { (rows : ℕ) (names : List ℕ) (p : Param ResolvedType) → Row rows names words.now lens.now i p → Holds rows result p.ty }
 {
-    if LOCAL_ROWS <= i {
+    if (LOCAL_ROWS <= i) | (lens.len() <= i) {
         return HeldType::empty();
     }
-    if lens.len() <= i {
+    let start = TYPE_WORDS * i;
+    if words.len() < start + TYPE_WORDS {
         return HeldType::empty();
     }
-    let note = lens[i];
-    let n = noted_count(note);
-    if TYPE_WORDS < n {
-        return HeldType::empty();
-    }
-    if words.len() < TYPE_WORDS * i + TYPE_WORDS {
-        return HeldType::empty();
-    }
-    let mut run = [0u32; TYPE_WORDS];
-    let mut k = 0;
-    while k < n {
-        run[k] = words[TYPE_WORDS * i + k];
-        k += 1;
-    }
-    HeldType {
-        words: run,
-        len: n,
-        poison: noted_poison(note),
-    }
+    noted_type(&words[start..start + TYPE_WORDS], lens[i])
 }
 
 // The type of the last local of this name.
@@ -83,12 +67,8 @@ fn fill_row(words: &mut [u32], i: usize, ty: HeldType)
     requires { (i < 64) × (4096 ≤ length words.old) }
     ensures { Filled words.old words.new i ty }
 {
-    let from = ty.words;
-    let mut k = 0;
-    while k < TYPE_WORDS {
-        words[TYPE_WORDS * i + k] = from[k];
-        k += 1;
-    }
+    let row = TYPE_WORDS * i;
+    words[row..row + TYPE_WORDS].copy_from_slice(&ty.words);
 }
 
 // A local as row i, behind those before it.

@@ -1,9 +1,9 @@
 // A definition's number and a name's number, kept apart, and the constants that belong to their types by name.
 
-#[derive(Clone, Copy)]
+#[derive(Clone, Copy, PartialEq, Eq)]
 pub struct TypeId(pub u32);
 
-#[derive(Clone, Copy)]
+#[derive(Clone, Copy, PartialEq, Eq)]
 pub struct NameId(pub u32);
 
 impl TypeId {

@@ -1,4 +1,5 @@
-// The words that tell what stands behind them, by name.
+// The words that tell what stands behind them, by name. Numbers and no enums: they are the image's own words, by which
+// `rules/specs/Kinds` defines the kinds; `kinds` has the enums that code matches on.
 
 // Types that are no primitive and that code asks for.
 #[derive(Clone, Copy)]

@@ -1,13 +1,14 @@
 -- What each way through the cycle's functions comes to, from what they call. Assumes nothing.
 use Prim.Native.Nat.{ℕ, zero, suc, ◌+◌, ◌-◌, ◌<◌, ◌≤◌}
 use mathlib.Core.Path.{◌≡◌, refl, sym, ap, subst, subst₂, ◌∙◌}
-use mathlib.Core.Bool.{Bool, true, false, ◌&&◌}
+use mathlib.Core.Bool.{Bool, true, false, false≢true, ◌&&◌}
 use mathlib.Core.Logic.{inr}
 use mathlib.Core.List.{List, [], ◌∷◌, ◌++◌, append_assoc}
 use native.Mathlib.Omega.{arith}
 use native.Mathlib.Decide.{dec_lt}
 use borrow.Author.Tests.{leb-false}
 use lib.ListN.{length, take, get_or}
+use Rattle.std.specs.Prelude.{Option, Some, None, is_some, unwrap_or}
 use Rattle.rules.specs.Syntax.{ResolvedType, TypeExpr, Param, CompiledSchema, run}
 use Rattle.rules.specs.declared.kinds.TypeKind.{TypeKind}
 use Rattle.rules.specs.Substitute.{Counted, lookup_alias}
@@ -16,9 +17,8 @@ use Rattle.image_words.proofs.Steps.{true_false}
 use Rattle.image_layout.specs.declared.Layout.{Layout}
 use Rattle.image_layout.specs.Open.{Open, pool_words}
 use Rattle.type_words.specs.declared.HeldType.{HeldType}
-use Rattle.type_words.specs.declared.lent.Longer.{Longer}
 use Rattle.type_words.specs.Lent.{lent}
-use Rattle.type_words.specs.Runs.{held_run, Grows}
+use Rattle.type_words.specs.Runs.{held_run, Grows, Grown}
 use Rattle.type_words.specs.Holds.{Holds}
 use Rattle.type_words.proofs.Runs.{grown_run}
 use Rattle.type_words.proofs.Trees.{one_built, fixed_built}
@@ -41,6 +41,27 @@ use Rattle.subst.specs.declared.cycle.End.{End}
 use Rattle.subst.specs.Lent.{resolved, NoRoom, Adds}
 use Rattle.subst.proofs.Generic.{is_expanded, an_alias}
 use Rattle.subst.proofs.Added.{also, adds_says, no_room_fails, put_behind, two_adds, two_fits, first_no}
+
+-- whether a run grew where it lies, and its count then
+pub record Longer : Type 0 where
+  pub ok : Bool
+  pub len : ℕ
+
+-- that run, with what it says of poison
+abbrev pub as_grown : Longer → List ℕ → Bool → Grown
+as_grown r words p = record { ok = r.ok; ty = record { words = words; len = r.len; poison = p } }
+
+-- both told of a count or none
+pub longer : (o : Option ℕ) (words : List ℕ) (p : Bool) (n : ℕ) {l : List ℕ} {ok : Bool} {len : ℕ} → ok ≡ is_some o → len ≡ unwrap_or o n → Grows l (lent o words p)
+    → Grows l (as_grown (record { ok = ok; len = len }) words p)
+longer (Some k) words p n e f g = rw (e, f) g
+longer None words p n e f g = record { ok = e ∙ g.ok; runs = λ t. absurd (false≢true (sym e ∙ t)) }
+
+pub longer_some : {o : Option ℕ} {len : ℕ} (words : List ℕ) (p : Bool) {l : List ℕ} → o ≡ Some len → Grows l (lent o words p) → Grows l (as_grown (record { ok = true; len = len }) words p)
+longer_some words p {l} e g = subst (λ (o : Option ℕ). Grows l (lent o words p)) e g
+
+pub longer_none : {o : Option ℕ} (words : List ℕ) (p : Bool) {l : List ℕ} → o ≡ None → Grows l (lent o words p) → Grows l (as_grown (record { ok = false; len = 0 }) words p)
+longer_none words p {l} e g = subst (λ (o : Option ℕ). Grows l (lent o words p)) e g
 
 -- a run is the words below its count
 pub held : (h : HeldType) → take h.len h.words ≡ held_run h
@@ -179,32 +200,32 @@ module _ (l : Layout) (at left : ℕ) where
 
     -- the words of a node and of its first part, where that is ok
     module _ (ok : a.ok ≡ true) (w' : List ℕ) (g : Longer) (z : left ≡ 0 → ⊥) where
-      pub one_arm : kind_at l at ≡ TypeKind.One → Substitutes l (at + 1) (left - 1) params a → (c : ℕ) → c ≡ get_or (pool_words l) at 0 → Grows (c ∷ take a.ty.len a.ty.words) (lent g w' a.ty.poison)
+      pub one_arm : kind_at l at ≡ TypeKind.One → Substitutes l (at + 1) (left - 1) params a → (c : ℕ) → c ≡ get_or (pool_words l) at 0 → Grows (c ∷ take a.ty.len a.ty.words) (as_grown g w' a.ty.poison)
           → Substitutes l at left params (record { ok = g.ok; next = a.next; left = a.left; ty = record { words = w'; len = g.len; poison = a.ty.poison } })
       unfolding plain_node
       one_arm is q c e grows =
           of_one l at left params _ z is
           (λ s o f le ps w k x n y.
           let p = one_stands k x y in
-          one_end l.names.rows (left - 1) n (plain_depth s f ps x) (ResolvedType.one k) a (q s o f le ps w x n p.part) ok (lent g w' a.ty.poison)
-          (λ t h. one_built h refl (subst₂ (λ (c : ℕ) (r : List ℕ). Grows (c ∷ r) (lent g w' a.ty.poison)) (e ∙ p.code) (held a.ty) grows) p.kind))
+          one_end l.names.rows (left - 1) n (plain_depth s f ps x) (ResolvedType.one k) a (q s o f le ps w x n p.part) ok (as_grown g w' a.ty.poison)
+          (λ t h. one_built h refl (subst₂ (λ (c : ℕ) (r : List ℕ). Grows (c ∷ r) (as_grown g w' a.ty.poison)) (e ∙ p.code) (held a.ty) grows) p.kind))
 
       pub fixed_arm : kind_at l at ≡ TypeKind.Fixed → Substitutes l (at + 1 + 1 + 1) (left - 1) params a
-          → (low high : ℕ) → low ≡ get_or (pool_words l) (at + 1) 0 → high ≡ get_or (pool_words l) (at + 1 + 1) 0 → Grows (66 ∷ low ∷ high ∷ take a.ty.len a.ty.words) (lent g w' a.ty.poison)
+          → (low high : ℕ) → low ≡ get_or (pool_words l) (at + 1) 0 → high ≡ get_or (pool_words l) (at + 1 + 1) 0 → Grows (66 ∷ low ∷ high ∷ take a.ty.len a.ty.words) (as_grown g w' a.ty.poison)
           → Substitutes l at left params (record { ok = g.ok; next = a.next; left = a.left; ty = record { words = w'; len = g.len; poison = a.ty.poison } })
       unfolding plain_node
       fixed_arm is q low high e₁ e₂ grows =
           of_fixed l at left params _ z is
           (λ s o f le ps w c d x n y.
           let p = fixed_stands c d x y in
-          one_end l.names.rows (left - 1) n (plain_depth s f ps x) (ResolvedType.fixed c d) a (q s o f le ps w x n p.part) ok (lent g w' a.ty.poison)
-          (λ t h. fixed_built h refl (subst (λ (r : List ℕ). Grows r (lent g w' a.ty.poison)) (words low high c d (e₁ ∙ p.low_is) (e₂ ∙ p.high_is)) grows)))
+          one_end l.names.rows (left - 1) n (plain_depth s f ps x) (ResolvedType.fixed c d) a (q s o f le ps w x n p.part) ok (as_grown g w' a.ty.poison)
+          (λ t h. fixed_built h refl (subst (λ (r : List ℕ). Grows r (as_grown g w' a.ty.poison)) (words low high c d (e₁ ∙ p.low_is) (e₂ ∙ p.high_is)) grows)))
         where
           words : (low high c d : ℕ) → low ≡ c → high ≡ d → 66 ∷ low ∷ high ∷ take a.ty.len a.ty.words ≡ 66 ∷ c ∷ d ∷ held_run a.ty
           words low high c d e f = rw (e, f, held a.ty)
 
       -- no room for the first part behind its code
-      pub two_full : kind_at l at ≡ TypeKind.Two → Substitutes l (at + 1) (left - 1) params a → (c : ℕ) → Grows (c ∷ take a.ty.len a.ty.words) (lent g w' false) → g.ok ≡ false
+      pub two_full : kind_at l at ≡ TypeKind.Two → Substitutes l (at + 1) (left - 1) params a → (c : ℕ) → Grows (c ∷ take a.ty.len a.ty.words) (as_grown g w' false) → g.ok ≡ false
           → (r : Resolved) → r.ok ≡ false → Substitutes l at left params r
       unfolding plain_node
       two_full is q c grows full r e =
@@ -218,11 +239,11 @@ module _ (l : Layout) (at left : ℕ) where
           (no_room_fails (suc (left - 1)) _ (two_fits l.names.rows (left - 1) p.middle (plain_depth s f ps x) (plain_depth s f ps v) k a said)
           (first_no l.names.rows (left - 1) p.middle (plain_depth s f ps x) (plain_depth s f ps v) k a said [] (subst (NoRoom (left - 1) (k ∷ [])) (sym t.is) (inr long)))))
         where
-          over : Grows (c ∷ take a.ty.len a.ty.words) (lent g w' false) → g.ok ≡ false → (k : ℕ) {n : ℕ} → length (take a.ty.len a.ty.words) ≡ n → 64 < length (k ∷ []) + n
+          over : Grows (c ∷ take a.ty.len a.ty.words) (as_grown g w' false) → g.ok ≡ false → (k : ℕ) {n : ℕ} → length (take a.ty.len a.ty.words) ≡ n → 64 < length (k ∷ []) + n
           over h full k e = let o : 64 < length (c ∷ take a.ty.len a.ty.words) = leb-false (length (c ∷ take a.ty.len a.ty.words)) 64 (sym h.ok ∙ full) in omega (arith, e)
 
       -- the second part behind the code and the first
-      pub two_arm : kind_at l at ≡ TypeKind.Two → Substitutes l (at + 1) (left - 1) params a → (c : ℕ) → c ≡ get_or (pool_words l) at 0 → Grows (c ∷ take a.ty.len a.ty.words) (lent g w' false) → g.ok ≡ true
+      pub two_arm : kind_at l at ≡ TypeKind.Two → Substitutes l (at + 1) (left - 1) params a → (c : ℕ) → c ≡ get_or (pool_words l) at 0 → Grows (c ∷ take a.ty.len a.ty.words) (as_grown g w' false) → g.ok ≡ true
           → (e : End) (w'' : List ℕ)
           → Each l a.next a.left params (resolved e w'') (λ s f ps. (x : TypeExpr) (m : ℕ) → At l a.next a.left x m → Adds l.names.rows a.left m (plain_depth s f ps x) (take g.len w') w'' e)
           → a.left ≤ left - 1
@@ -261,15 +282,15 @@ module _ (l : Layout) (at left : ℕ) where
         (λ t u. refl) n r refl (e ∙ t.next) refl refl))
 
     -- an expression by itself, put behind the words
-    pub appends_whole : Substitutes l at left params a → (n len : ℕ) → len ≡ n → (words w₁ w₂ : List ℕ) (g : Longer) → take n w₁ ≡ take n words → Grows (take len w₁ ++ held_run a.ty) (lent g w₂ false)
+    pub appends_whole : Substitutes l at left params a → (n len : ℕ) → len ≡ n → (words w₁ w₂ : List ℕ) (g : Longer) → take n w₁ ≡ take n words → Grows (take len w₁ ++ held_run a.ty) (as_grown g w₂ false)
         → (r : End) → r.ok ≡ (a.ok && g.ok) → r.poison ≡ a.ty.poison → r.next ≡ a.next → r.left ≡ a.left → r.len ≡ g.len
         → Each l at left params (resolved r w₂) (λ s f ps. (e : TypeExpr) (m : ℕ) → At l at left e m → Adds l.names.rows left m (plain_depth s f ps e) (take n words) w₂ r)
     appends_whole q n len same words w₁ w₂ g kept grows r e₁ e₂ e₃ e₄ e₅ s o f le ps w x m y =
-        put_behind (q s o f le ps w x m y) (subst (λ (b : List ℕ). Grows (b ++ held_run a.ty) (lent g w₂ false)) (ap (λ (k : ℕ). take k w₁) same ∙ kept) grows) refl r e₁ e₂ e₃ e₄ e₅
+        put_behind (q s o f le ps w x m y) (subst (λ (b : List ℕ). Grows (b ++ held_run a.ty) (as_grown g w₂ false)) (ap (λ (k : ℕ). take k w₁) same ∙ kept) grows) refl r e₁ e₂ e₃ e₄ e₅
 
     -- a node of two parts: its code, its first part, and what comes of its second
     module _ (z : 0 < left) (is : kind_at l at ≡ TypeKind.Two) (q : Substitutes l (at + 1) (left - 1) params a) (n c : ℕ) (i : c ≡ get_or (pool_words l) at 0)
-        (words w₁ w₂ : List ℕ) (g : Longer) (put : take (n + 1) w₁ ≡ take n words ++ (c ∷ [])) (len : ℕ) (len_is : len ≡ n + 1) (grows : Grows (take len w₁ ++ held_run a.ty) (lent g w₂ false)) where
+        (words w₁ w₂ : List ℕ) (g : Longer) (put : take (n + 1) w₁ ≡ take n words ++ (c ∷ [])) (len : ℕ) (len_is : len ≡ n + 1) (grows : Grows (take len w₁ ++ held_run a.ty) (as_grown g w₂ false)) where
       front_is : take len w₁ ≡ take n words ++ (c ∷ [])
       front_is = ap (λ (k : ℕ). take k w₁) len_is ∙ put
 
@@ -314,7 +335,7 @@ module _ (l : Layout) (at left : ℕ) where
           let p = two_stands k x v y in
           let said = q s o f (omega arith) ps w x p.middle p.left in
           let code : c ≡ k = i ∙ p.code in
-          let first = put_behind said (subst (λ (b : List ℕ). Grows (b ++ held_run a.ty) (lent g w₂ false)) front_is grows) refl (record { ok = a.ok && g.ok; poison = a.ty.poison; next = a.next; left = a.left; len = g.len }) refl refl refl refl refl in
+          let first = put_behind said (subst (λ (b : List ℕ). Grows (b ++ held_run a.ty) (as_grown g w₂ false)) front_is grows) refl (record { ok = a.ok && g.ok; poison = a.ty.poison; next = a.next; left = a.left; len = g.len }) refl refl refl refl refl in
           record {
             ok = λ z. absurd (true_false (sym z ∙ not_ok));
             no = λ _. first_no l.names.rows (left - 1) p.middle (plain_depth s f ps x) (plain_depth s f ps v) k a said (take n words) (subst (λ (c : ℕ). NoRoom (left - 1) (take n words ++ (c ∷ [])) (plain_depth s f ps x)) code (first.no e));

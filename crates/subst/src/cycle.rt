@@ -51,10 +51,11 @@ fn append(
     let mut b = nothing();
     resolve(l, start.at, start.left, params, &mut b);
     let g = push_back(words, start.len, b.ty);
-    let ok = b.ok & g.ok;
+    let ok = b.ok & g.is_some();
+    let len = g.unwrap_or(n);
     if start.again {
         if ok {
-            let mut rest = append(l, b.next, b.left, params, words, g.len);
+            let mut rest = append(l, b.next, b.left, params, words, len);
             rest.poison = b.ty.poison | rest.poison;
             return rest;
         }
@@ -64,7 +65,7 @@ fn append(
         poison: b.ty.poison,
         next: b.next,
         left: b.left,
-        len: g.len,
+        len,
     }
 }
 
@@ -146,26 +147,25 @@ fn resolve(l: &Layout, at: usize, left: u32, params: &[u32], a: &mut Resolved)
         Parts::One => {
             let code = image_words::section_word(pool, at);
             let g = push_front(code, &mut a.ty.words, n);
-            a.ok = g.ok;
-            a.ty.len = g.len;
+            a.ok = g.is_some();
+            a.ty.len = g.unwrap_or(n);
             return;
         }
         Parts::Fixed => {
             let low = image_words::section_word(pool, at + 1);
             let high = image_words::section_word(pool, at + 1 + 1);
             let g = push_fixed(low, high, &mut a.ty.words, n);
-            a.ok = g.ok;
-            a.ty.len = g.len;
+            a.ok = g.is_some();
+            a.ty.len = g.unwrap_or(n);
             return;
         }
         Parts::Two => {
             let code = image_words::section_word(pool, at);
-            let g = push_front(code, &mut a.ty.words, n);
-            if !g.ok {
+            let Some(len) = push_front(code, &mut a.ty.words, n) else {
                 a.ok = false;
                 return;
-            }
-            let e = append(l, next, rest, params, &mut a.ty.words, g.len);
+            };
+            let e = append(l, next, rest, params, &mut a.ty.words, len);
             a.ok = e.ok;
             a.next = e.next;
             a.left = e.left;

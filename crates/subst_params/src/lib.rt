@@ -7,9 +7,8 @@ ghost use Rattle.rules.specs.Substitute.{find_param};
 ghost use Rattle.type_words.specs.Holds.{Holds, MaybeHolds};
 ghost use Rattle.subst_params.specs.Views.{Row, Views, Written};
 
-use rules::bounds::TYPE_WORDS;
 use rules::ids::NameId;
-use type_words::notes::{note_of, noted_count, noted_poison};
+use type_words::notes::{note_of, noted_type};
 use type_words::{HeldType, MaybeType};
 
 // A row: the parameter's name, a note of its argument (`type_words::notes`), and 64 words.
@@ -22,34 +21,17 @@ fn argument(table: &[u32], at: usize) -> HeldType
     if image_words::less(table.len(), at) < ROW {
         return HeldType::empty();
     }
-    let note = table[at + 1];
-    let n = noted_count(note);
-    if TYPE_WORDS < n {
-        return HeldType::empty();
-    }
-    let mut words = [0u32; TYPE_WORDS];
-    let mut i = 0;
-    while i < n {
-        words[i] = table[at + 2 + i];
-        i += 1;
-    }
-    HeldType {
-        words,
-        len: n,
-        poison: noted_poison(note),
-    }
+    noted_type(&table[at + 2..at + ROW], table[at + 1])
 }
 
 // The argument of the first type parameter of this name.
 pub fn find_param(table: &[u32], x: NameId) -> MaybeType
     ensures { (names : ℕ) (ps : List (Param ResolvedType)) → Views names table.now 0 ps → MaybeHolds names result (find_param x.0 ps) }
 {
-    let mut at = 0;
-    while at < table.len() {
-        if table[at] == x.0 {
+    for at in (0..table.len()).step_by(ROW) {
+        if NameId(table[at]) == x {
             return MaybeType::some(argument(table, at));
         }
-        at += ROW;
     }
     MaybeType::none()
 }
@@ -59,14 +41,9 @@ pub fn write_row(table: &mut [u32], at: usize, name: NameId, ty: HeldType)
     requires { at + 66 ≤ length table.old }
     ensures { Written table.old table.new at name.0 ty }
 {
-    let words = ty.words;
     table[at] = name.0;
     table[at + 1] = note_of(ty);
-    let mut i = 0;
-    while i < TYPE_WORDS {
-        table[at + 2 + i] = words[i];
-        i += 1;
-    }
+    table[at + 2..at + ROW].copy_from_slice(&ty.words);
 }
 
 // The first n rows of a table.

@@ -47,7 +47,7 @@ pub fn pass(seen: Seen, i: usize, before: u32, word: u32) -> Seen
 fn is_poison(code: u32, next: u32) -> bool
     ensures { result ≡ poison_words code next }
 {
-    (code == TypeTag::NAMED) & (next == TypeId::POISON.0)
+    (code == TypeTag::NAMED) & (TypeId(next) == TypeId::POISON)
 }
 
 // How many words stand in a node before its parts.

@@ -3,7 +3,7 @@ use Prim.Native.Nat.{ℕ, ◌≤◌, ◌<◌}
 use native.Mathlib.Omega.{arith}
 use mathlib.Core.Path.{◌≡◌, refl, sym, ap, ap₂, ◌∙◌}
 use mathlib.Core.Logic.{◌⊎◌, inl, inr, ⊎_elim}
-use mathlib.Core.Bool.{Bool, true, false, ◌||◌, ◌&&◌}
+use mathlib.Core.Bool.{Bool, true, false, ◌||◌, ◌&&◌, or-false}
 use native.Mathlib.Decide.{ℕ_discrete}
 use lib.Dec.{eqb}
 use borrow.Author.Tests.{ne_eqb}
@@ -74,13 +74,9 @@ pub float_off : (c : ℕ) → (9 ≤ c → 10 < c) → float_code c ≡ false
 unfolding float_code
 float_off c h = rw (ne_eqb c 9 (λ q. omega (arith, h (omega arith))), ne_eqb c 10 (λ q. omega (arith, h (omega arith))))
 
-or-false : (b : Bool) → b ≡ (b || false)
-or-false true = refl
-or-false false = refl
-
 pub numeric_tree : (names : ℕ) (t : ResolvedType) → Good names t → is_numeric t ≡ numeric_code (word_of t 0)
 unfolding is_numeric run numeric_code
-numeric_tree names (ResolvedType.plain c) g = or-false (within 1 12 c) ∙ sym (ap (λ (b : Bool). within 1 12 c || b) (ne_eqb c 16 (plain_not_sub g)))
+numeric_tree names (ResolvedType.plain c) g = sym (or-false (within 1 12 c)) ∙ sym (ap (λ (b : Bool). within 1 12 c || b) (ne_eqb c 16 (plain_not_sub g)))
 numeric_tree names (ResolvedType.sub s n) g = refl
 numeric_tree names (ResolvedType.bits ns) g = refl
 numeric_tree names (ResolvedType.named n) g = refl
@@ -90,7 +86,7 @@ numeric_tree names (ResolvedType.two c t u) g = let o : Off c = two_off g.0 in s
 
 pub signed_tree : (names : ℕ) (t : ResolvedType) → Good names t → is_signed_numeric t ≡ signed_code (word_of t 0) (word_of t 1)
 unfolding is_signed_numeric run signed_code
-signed_tree names (ResolvedType.plain c) g = or-false (within 5 12 c) ∙ sym (ap (λ (b : Bool). within 5 12 c || (b && false)) (ne_eqb c 16 (plain_not_sub g)))
+signed_tree names (ResolvedType.plain c) g = sym (or-false (within 5 12 c)) ∙ sym (ap (λ (b : Bool). within 5 12 c || (b && false)) (ne_eqb c 16 (plain_not_sub g)))
 signed_tree names (ResolvedType.sub s n) g = refl
 signed_tree names (ResolvedType.bits ns) g = refl
 signed_tree names (ResolvedType.named n) g = refl

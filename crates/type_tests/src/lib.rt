@@ -10,23 +10,11 @@ use rules::ids::PrimitiveType;
 use rules::tags::TypeTag;
 use type_words::{HeldType, MaybeType};
 
-// Whether two types are the same run: it stops at the first word that differs.
+// Whether two types are the same run.
 pub fn same_type(a: HeldType, b: HeldType) -> bool
     ensures { Same a b result }
 {
-    let n = a.count();
-    let m = b.count();
-    if n != m {
-        return false;
-    }
-    let mut i = 0;
-    while i < n {
-        if a.words[i] != b.words[i] {
-            return false;
-        }
-        i += 1;
-    }
-    true
+    a.words[..a.count()] == b.words[..b.count()]
 }
 
 pub fn is_numeric(ty: HeldType) -> bool

@@ -1,5 +1,5 @@
 pub mod Runs
 pub mod Trees
 pub mod Maybe
-pub mod Carried
+pub mod Moved
 pub mod Noted

@@ -2,3 +2,4 @@ pub mod Runs
 pub mod Holds
 pub mod Lent
 pub mod Notes
+pub mod Rests

@@ -8,49 +8,32 @@ use crate::HeldType;
 use rules::bounds::TYPE_WORDS;
 use rules::tags::TypeTag;
 
-// Whether the run could grow, and its count then.
-#[derive(Clone, Copy)]
-pub struct Longer {
-    pub ok: bool,
-    pub len: usize,
-}
-
-// A word before the run.
-pub fn push_front(word: u32, words: &mut [u32; TYPE_WORDS], n: usize) -> Longer
+// A word before the run, and the run's count then; none where it would pass 64 words.
+pub fn push_front(word: u32, words: &mut [u32; TYPE_WORDS], n: usize) -> Option<usize>
     requires { length words.old ≡ 64 }
     ensures { ((p : Bool) → Grows (word ∷ take n words.old) (lent result words.new p)) × (length words.new ≡ 64) }
 {
     if TYPE_WORDS <= n {
-        return Longer { ok: false, len: n };
+        return None;
     }
+    // Word by word: `copy_within` takes three times as long at eight words.
     let mut carry = word;
-    let mut i = 0;
-    while i <= n {
+    for i in 0..n + 1 {
         let next = words[i];
         words[i] = carry;
         carry = next;
-        i += 1;
     }
-    Longer {
-        ok: true,
-        len: n + 1,
-    }
+    Some(n + 1)
 }
 
 // A fixed array's three words before the run.
-pub fn push_fixed(low: u32, high: u32, words: &mut [u32; TYPE_WORDS], n: usize) -> Longer
+pub fn push_fixed(low: u32, high: u32, words: &mut [u32; TYPE_WORDS], n: usize) -> Option<usize>
     requires { length words.old ≡ 64 }
     ensures { ((p : Bool) → Grows (66 ∷ low ∷ high ∷ take n words.old) (lent result words.new p)) × (length words.new ≡ 64) }
 {
-    let f = push_front(high, words, n);
-    if !f.ok {
-        return f;
-    }
-    let g = push_front(low, words, f.len);
-    if !g.ok {
-        return g;
-    }
-    push_front(TypeTag::FIXED_ARRAY, words, g.len)
+    let f = push_front(high, words, n)?;
+    let g = push_front(low, words, f)?;
+    push_front(TypeTag::FIXED_ARRAY, words, g)
 }
 
 // A word behind the first n, where there is room for it.
@@ -64,21 +47,14 @@ pub fn put_at(words: &mut [u32; TYPE_WORDS], n: usize, word: u32)
 }
 
 // Another run behind the first n words.
-pub fn push_back(words: &mut [u32; TYPE_WORDS], n: usize, other: HeldType) -> Longer
+pub fn push_back(words: &mut [u32; TYPE_WORDS], n: usize, other: HeldType) -> Option<usize>
     requires { (length words.old ≡ 64) × (n ≤ 64) }
     ensures { ((p : Bool) → Grows (take n words.old ++ held_run other) (lent result words.new p)) × (length words.new ≡ 64) }
 {
     let m = other.count();
     if TYPE_WORDS - n < m {
-        return Longer { ok: false, len: n };
+        return None;
     }
-    let mut i = 0;
-    while i < m {
-        words[n + i] = other.words[i];
-        i += 1;
-    }
-    Longer {
-        ok: true,
-        len: n + m,
-    }
+    words[n..n + m].copy_from_slice(&other.words[..m]);
+    Some(n + m)
 }

@@ -32,8 +32,7 @@ impl HeldType {
     pub fn count(self) -> usize
         ensures { (result ≡ length (held_run self)) × (result ≤ 64) }
     {
-        let n = self.len;
-        if n < TYPE_WORDS { n } else { TYPE_WORDS }
+        self.len.min(TYPE_WORDS)
     }
 
     // A word of the run, 0 past its end.
@@ -44,40 +43,34 @@ impl HeldType {
         if i < n { self.words[i] } else { 0 }
     }
 
+    // These few words.
+    pub(crate) fn of(run: &[u32], poison: bool) -> HeldType
+        requires { length run.now ≤ 64 }
+        ensures { Made result run.now poison }
+    {
+        let len = run.len();
+        let mut words = [0u32; TYPE_WORDS];
+        words[..len].copy_from_slice(run);
+        HeldType { words, len, poison }
+    }
+
     pub fn empty() -> HeldType
         ensures { Made result [] false }
     {
-        HeldType {
-            words: [0u32; TYPE_WORDS],
-            len: 0,
-            poison: false,
-        }
+        HeldType::of(&[], false)
     }
 
     // A primitive or a semantic type.
     pub fn plain(code: u32) -> HeldType
         ensures { Made result (code ∷ []) false }
     {
-        let mut words = [0u32; TYPE_WORDS];
-        words[0] = code;
-        HeldType {
-            words,
-            len: 1,
-            poison: false,
-        }
+        HeldType::of(&[code], false)
     }
 
     pub fn named(id: TypeId) -> HeldType
         ensures { Made result (48 ∷ id.0 ∷ []) (eqb id.0 NONE) }
     {
-        let mut words = [0u32; TYPE_WORDS];
-        words[0] = TypeTag::NAMED;
-        words[1] = id.0;
-        HeldType {
-            words,
-            len: 2,
-            poison: id.0 == TypeId::POISON.0,
-        }
+        HeldType::of(&[TypeTag::NAMED, id.0], id == TypeId::POISON)
     }
 }
 

@@ -1,26 +1,24 @@
 -- Laws: writing words into a list of bytes, below a limit.
 use mathlib.Core.Path.{◌≡◌, refl, ap, ◌∙◌, sym}
-use Prim.Native.Nat.{ℕ, suc, ◌+◌, ◌*◌, ◌<◌, ◌≤◌}
+use Prim.Native.Nat.{ℕ, ◌+◌, ◌*◌, ◌<◌, ◌≤◌}
 use native.Mathlib.Omega.{arith}
 use native.Mathlib.Numerals.{add-one}
 use mathlib.Core.List.{List, [], ◌∷◌, ◌++◌, append_assoc}
-use lib.ListN.{length, get_or, take, drop, set, length-append, length-take, length-drop}
-use lib.Seq.{length-take-le, take-suc, sets-eq, take_at, drop-append-add, drop-drop, paste-zero}
+use lib.ListN.{length, get_or, take, drop, length-append, length-take, length-drop}
+use lib.Seq.{length-take-le, take-suc, take_at, drop-append-add, drop-drop, paste-zero}
 use native.Mathlib.Decide.{dec_le}
 use native.Mathlib.Nat.{lt_of_not-le}
 use borrow.Author.Tests.{le-leb, lt-leb}
+use borrow.Rule.Slice.PartMut.{put_mid}
+use Rattle.std.proofs.lemmas.Slice.{put_mid-paste}
+use Rattle.std.proofs.lemmas.List.Edits.{paste_all}
 use Rattle.rules.specs.Words.{le, bytes_of, over_start}
 use Rattle.words.proofs.Words.{length_bytes_of}
 use Rattle.words.specs.Puts.{splice, put, puts}
 
--- four stores are one splice
-pub four : (xs : List ℕ) (at a b c d : ℕ) → at + 4 ≤ length xs
-    → set (set (set (set xs at a) (at + 1) b) (at + 2) c) (at + 3) d ≡ splice at (a ∷ b ∷ c ∷ d ∷ []) xs
-four xs at a b c d h =
-    let e1 : at + 1 ≡ suc at = omega arith in
-    let e2 : at + 2 ≡ suc (suc at) = omega arith in
-    let e3 : at + 3 ≡ suc (suc (suc at)) = omega arith in
-    rw (e1, e2, e3) (sets-eq (a ∷ b ∷ c ∷ d ∷ []) xs at h)
+-- a part of a slice that was written is a splice
+pub put_mid_splice : (at k : ℕ) (ys zs xs : List ℕ) → zs ≡ ys → k ≡ length ys → put_mid at k xs zs ≡ splice at ys xs
+put_mid_splice at k ys zs xs e l = put_mid-paste at k xs zs ys (length ys) e (sym l) refl ∙ paste_all xs at ys (length ys) refl ∙ sym (append_assoc (take at xs) ys (drop (at + length ys) xs))
 
 module _ (limit : ℕ) where
   -- a word that fits is a splice; one that does not changes nothing

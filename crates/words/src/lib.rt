@@ -5,27 +5,20 @@ ghost use Rattle.std.specs.Prelude.{◌≡◌, ◌+◌, ◌≤◌, ◌<◌, leng
 ghost use Rattle.words.specs.Words.{word_at};
 ghost use Rattle.words.specs.Puts.{put};
 
-// A byte of the slice.
-fn byte(image: &[u8], i: usize) -> u32
-    requires { i < length image.now }
-    ensures { (result ≡ get_or image.now i 0) × (result < 256) }
-{
-    image[i] as u32
-}
-
-// The word at a byte's place, all inside: nothing is tested, so that the four bytes can be one load.
+// The word at a byte's place, all inside: nothing is tested, so that the four bytes can be one load. A sum and no
+// `from_le_bytes`, whose array of bytes is a copy of a text to the gate's test (`tools/copies image_qualified`).
 pub fn whole_word(image: &[u8], at: usize) -> u32
     requires { at + 4 ≤ length image.now }
     ensures { result ≡ word_at image.now at }
 {
-    let a = byte(image, at);
-    let b = byte(image, at + 1);
-    let c = byte(image, at + 2);
-    let d = byte(image, at + 3);
+    let a = image[at] as u32;
+    let b = image[at + 1] as u32;
+    let c = image[at + 2] as u32;
+    let d = image[at + 3] as u32;
     a + 256 * b + 65536 * c + 16777216 * d
 }
 
-// The byte at i, or 0 past the end.
+// The byte at i, or 0 past the end. A test and no `get`, whose Option is a copy to the same test.
 fn byte_at(image: &[u8], i: usize) -> u32
     ensures { (result ≡ get_or image.now i 0) × (result < 256) }
 {
@@ -55,10 +48,7 @@ pub fn put_word(out: &mut [u8], limit: usize, at: usize, w: u32) -> usize
     ensures { (result ≡ at + 4) × (out.new ≡ put limit at w out.old) }
 {
     if at + 4 <= limit {
-        out[at] = (w % 256) as u8;
-        out[at + 1] = (w / 256 % 256) as u8;
-        out[at + 2] = (w / 65536 % 256) as u8;
-        out[at + 3] = (w / 16777216 % 256) as u8;
+        out[at..at + 4].copy_from_slice(&w.to_le_bytes());
     }
     at + 4
 }

@@ -16,10 +16,7 @@ pub struct Writer<'a> {
 pub fn at<'a>(out: &'a mut [u8], next: usize) -> Writer<'a>
     ensures { (result.out ≡ out.entry) × (result.next ≡ next) }
 {
-    Writer {
-        out: out,
-        next: next,
-    }
+    Writer { out, next }
 }
 
 // A word at a place, if it ends inside the slice, and the place behind it. A writer's words are written here.

@@ -2,11 +2,7 @@
 use mathlib.Core.Path.{refl}
 use lib.Dec.{lit<}
 use Rattle.rules.specs.Fits.{literal_fits, literal_own}
-use Rattle.literal_fits.proofs.Given.{given, own}
 use Rattle.literal_fits.proofs.literal_uint_type.Goals as goal
 
-pub returns-then-expected : goal.returns-then-expected
-returns-then-expected c names o m = given names 1 _ _ _ o m c.if-expected.true (λ names t p. unfold literal_fits in c.uint_fits.ensures names t p)
-
 pub returns : goal.returns
-returns c names o m = own names 1 _ _ 4 _ _ o m c.if-expected.false (unfold literal_own in refl) (lit< tt) c.plain.ensures c.some.ensures
+returns c names o m = c.literal_type.ensures 1 c.args.bits (λ names t p. unfold literal_fits in c.uint_fits.ensures names t p) (unfold literal_own in refl) (lit< tt) names o m

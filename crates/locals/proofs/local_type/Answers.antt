@@ -1,10 +1,8 @@
--- `locals::local_type` meets its contract. The loop's invariant: k words are copied. Assumes nothing.
-use Prim.Native.Nat.{◌-◌, ◌*◌}
+-- `locals::local_type` meets its contract. Assumes nothing.
+use Prim.Native.Nat.{◌*◌}
 use native.Mathlib.Omega.{arith}
-use Rattle.type_from_pool.proofs.Resting.{type_read}
+use Rattle.type_words.proofs.Noted.{rests_at}
 use Rattle.locals.proofs.local_type.Goals as goal
 
 pub returns : goal.returns
-returns c rows names p r =
-    let v = c.loop-k.invariant in
-    type_read rows p.ty r.stored r.noted c.noted_count-n.ensures c.args.words.now (64 * c.args.i) c.loop-k.run c.loop-k.k v.2 (omega arith) v.4 r.words_at c.noted_poison.ensures
+returns c rows names p r = c.noted_type.ensures rows p.ty (rests_at rows c.args.words.now (64 * c.args.i) _ p.ty (omega arith) (omega (arith, r.room)) r.noted r.words_at r.stored)

@@ -1,10 +1,8 @@
--- `subst_params::argument` meets its contract. The loop's invariant: i words are copied. Assumes nothing.
-use Prim.Native.Nat.{◌+◌, ◌-◌}
+-- `subst_params::argument` meets its contract. Assumes nothing.
+use Prim.Native.Nat.{◌+◌}
 use native.Mathlib.Omega.{arith}
-use Rattle.type_from_pool.proofs.Resting.{type_read}
+use Rattle.type_words.proofs.Noted.{rests_at}
 use Rattle.subst_params.proofs.argument.Goals as goal
 
 pub returns : goal.returns
-returns c names p r =
-    let v = c.loop-i.invariant in
-    type_read names p.ty r.stored r.noted c.noted_count-n.ensures c.args.table.now (c.args.at + 2) c.loop-i.words c.loop-i.i v.2 (omega arith) v.4 r.words c.noted_poison.ensures
+returns c names p r = c.noted_type.ensures names p.ty (rests_at names c.args.table.now (c.args.at + 2) _ p.ty (omega arith) (omega (arith, r.inside)) r.noted r.words r.stored)

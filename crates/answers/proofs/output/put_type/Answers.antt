@@ -9,5 +9,5 @@ pub returns : goal.returns
 returns c =
     let a = c.args in
     let w : length a.ty.words ≡ 64 = search rules in
-    let e = run_take a.ty c.count-n.result w c.count-n.ensures.0 in
+    let e = run_take a.ty c.count.result w c.count.ensures.0 in
     writes_same e c.put_words.ensures

@@ -13,5 +13,5 @@ pub returns : goal.returns
 returns c =
     let a = c.args in
     let w : length a.r.words ≡ 131 = search rules in
-    let e = detail_take a.r c.size-n.result w c.size-n.ensures.0 in
-    c.put_words.ensures.bytes ∙ ap (λ (l : List ℕ). puts (length a.detail.now) 0 l a.detail.now) e ∙ puts_start _ _ _ (omega (arith, c.size-n.ensures.0, c.size-n.ensures.1)) (omega arith)
+    let e = detail_take a.r c.size.result w c.size.ensures.0 in
+    c.put_words.ensures.bytes ∙ ap (λ (l : List ℕ). puts (length a.detail.now) 0 l a.detail.now) e ∙ puts_start _ _ _ (omega (arith, c.size.ensures.0, c.size.ensures.1)) (omega arith)

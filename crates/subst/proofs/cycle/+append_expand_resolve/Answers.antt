@@ -3,10 +3,10 @@ use borrow.Author.Rules.{rules}
 use Prim.Native.Nat.{ℕ, ◌-◌}
 use native.Mathlib.Omega.{arith}
 use mathlib.Core.Path.{refl, subst₂, ◌∙◌, subst}
-use mathlib.Core.Bool.{false}
+use mathlib.Core.Bool.{true, false}
 use Rattle.subst_leaves.specs.Nodes.{Substitutes}
 use Rattle.subst_parts.specs.declared.Parts.{Parts}
-use Rattle.subst.proofs.Arms.{as_parts, begins_two, begins_as_it_is, behind_left, behind_len, both, appends_whole, appends_two, appends_two_no, as_alias, start_left, says_at, stopped, alias_arm, is_whole, is_read, one_arm, fixed_arm, two_full, two_arm}
+use Rattle.subst.proofs.Arms.{longer, longer_some, longer_none, as_parts, begins_two, begins_as_it_is, behind_left, behind_len, both, appends_whole, appends_two, appends_two_no, as_alias, start_left, says_at, stopped, alias_arm, is_whole, is_read, one_arm, fixed_arm, two_full, two_arm}
 use mathlib.Core.List.{[], ◌∷◌}
 use Rattle.subst.proofs.Generic.{one_view}
 use borrow.Author.Tests.{not-true, not-false}
@@ -26,7 +26,7 @@ pub append-append-rest-requires : goal.append-append-rest-requires
 append-append-rest-requires t c = let a = c.args in
     let s = begins_two c.node_at-node.result a.at a.left a.n c.start_behind-start.result c.start_behind-start.ensures c.if-start.true in
     let k = as_parts a.l.now a.at a.left c.node_at-node.result c.node_at-node.ensures Parts.Two s.0 in
-    (omega (arith, c.decreases, k.2.0, s.3, c.resolve.ensures.keeps.falls), (c.requires.0, c.push_back-g.ensures.1, ((c.push_back-g.ensures.0 false).runs (both c.resolve.new.a.ok c.push_back-g.result.ok c.if-ok.true).1).small))
+    (omega (arith, c.decreases, k.2.0, s.3, c.resolve.ensures.keeps.falls), (c.requires.0, c.push_back-g.ensures.1, ((longer _ _ false _ c.is_some.ensures c.unwrap_or-len.ensures (c.push_back-g.ensures.0 false)).runs (both c.resolve.new.a.ok c.is_some.result c.if-ok.true).1).small))
 
 pub append-returns-then-ok : goal.append-returns-then-ok
 append-returns-then-ok t c = let a = c.args in
@@ -39,7 +39,7 @@ append-returns-then-ok t c = let a = c.args in
     record {
       falls = omega (arith, h.falls, s.3, e.falls);
       wide = e.wide;
-      means = appends_two a.l.now a.at a.left a.params.now b k.2.0 k.3 q a.n _ c.section_word.ensures _ _ _ c.push_back-g.result (c.put_at.ensures.2 s.1) _ s.4 (c.push_back-g.ensures.0 false) (both c.resolve.new.a.ok c.push_back-g.result.ok c.if-ok.true).0 (both c.resolve.new.a.ok c.push_back-g.result.ok c.if-ok.true).1 (omega (arith, h.falls, s.3)) c.append-rest.result _ e.means;
+      means = appends_two a.l.now a.at a.left a.params.now b k.2.0 k.3 q a.n _ c.section_word.ensures _ _ _ (record { ok = c.is_some.result; len = c.unwrap_or-len.result }) (c.put_at.ensures.2 s.1) _ s.4 (longer _ _ false _ c.is_some.ensures c.unwrap_or-len.ensures (c.push_back-g.ensures.0 false)) (both c.resolve.new.a.ok c.is_some.result c.if-ok.true).0 (both c.resolve.new.a.ok c.is_some.result c.if-ok.true).1 (omega (arith, h.falls, s.3)) c.append-rest.result _ e.means;
     }
 
 pub append-returns-else-ok : goal.append-returns-else-ok
@@ -52,7 +52,7 @@ append-returns-else-ok t c = let a = c.args in
     record {
       falls = omega (arith, h.falls, s.3);
       wide = c.push_back-g.ensures.1;
-      means = appends_two_no a.l.now a.at a.left a.params.now b k.2.0 k.3 q a.n _ c.section_word.ensures _ _ _ c.push_back-g.result (c.put_at.ensures.2 s.1) _ s.4 (c.push_back-g.ensures.0 false) c.if-ok.false _ c.if-ok.false _;
+      means = appends_two_no a.l.now a.at a.left a.params.now b k.2.0 k.3 q a.n _ c.section_word.ensures _ _ _ (record { ok = c.is_some.result; len = c.unwrap_or-len.result }) (c.put_at.ensures.2 s.1) _ s.4 (longer _ _ false _ c.is_some.ensures c.unwrap_or-len.ensures (c.push_back-g.ensures.0 false)) c.if-ok.false _ c.if-ok.false _;
     }
 
 pub append-returns-else-start : goal.append-returns-else-start
@@ -64,7 +64,7 @@ append-returns-else-start t c = let a = c.args in
     record {
       falls = omega (arith, h.falls, s.1);
       wide = c.push_back-g.ensures.1;
-      means = appends_whole a.l.now a.at a.left a.params.now b q a.n _ s.2 _ _ _ c.push_back-g.result c.put_at.ensures.1 (c.push_back-g.ensures.0 false) _ refl refl refl refl refl;
+      means = appends_whole a.l.now a.at a.left a.params.now b q a.n _ s.2 _ _ _ (record { ok = c.is_some.result; len = c.unwrap_or-len.result }) c.put_at.ensures.1 (longer _ _ false _ c.is_some.ensures c.unwrap_or-len.ensures (c.push_back-g.ensures.0 false)) _ refl refl refl refl refl;
     }
 
 pub expand-start_of-start-requires : goal.expand-start_of-start-requires
@@ -170,7 +170,7 @@ resolve-returns-in-One-clause-keeps t c = let a = c.args in
     let q = subst (λ (n : ℕ). Substitutes a.l.now n (a.left - 1) a.params.now b) k.0 h.means in
     record {
       falls = omega (arith, h.falls);
-      means = one_arm a.l.now a.at a.left a.params.now b (not-false _ c.if-not-a.false-raw) _ c.push_front-g.result (λ z. omega (arith, k.2.0, z)) k.3 q _ c.section_word-code.ensures (c.push_front-g.ensures.0 b.ty.poison);
+      means = one_arm a.l.now a.at a.left a.params.now b (not-false _ c.if-not-a.false-raw) _ (record { ok = c.is_some-a.result; len = c.unwrap_or-a.result }) (λ z. omega (arith, k.2.0, z)) k.3 q _ c.section_word-code.ensures (longer _ _ b.ty.poison _ c.is_some-a.ensures c.unwrap_or-a.ensures (c.push_front-g.ensures.0 b.ty.poison));
     }
 
 pub resolve-overflow_add-at : goal.resolve-overflow_add-at
@@ -199,27 +199,27 @@ resolve-returns-in-Fixed-clause-keeps t c = let a = c.args in
     let q = subst (λ (n : ℕ). Substitutes a.l.now n (a.left - 1) a.params.now b) k.0 h.means in
     record {
       falls = omega (arith, h.falls);
-      means = fixed_arm a.l.now a.at a.left a.params.now b (not-false _ c.if-not-a.false-raw) _ c.push_fixed-g.result (λ z. omega (arith, k.2.0, z)) k.3 q _ _ c.section_word-low.ensures c.section_word-high.ensures (c.push_fixed-g.ensures.0 b.ty.poison);
+      means = fixed_arm a.l.now a.at a.left a.params.now b (not-false _ c.if-not-a.false-raw) _ (record { ok = c.is_some-a-in-Fixed.result; len = c.unwrap_or-a-in-Fixed.result }) (λ z. omega (arith, k.2.0, z)) k.3 q _ _ c.section_word-low.ensures c.section_word-high.ensures (longer _ _ b.ty.poison _ c.is_some-a-in-Fixed.ensures c.unwrap_or-a-in-Fixed.ensures (c.push_fixed-g.ensures.0 b.ty.poison));
     }
 
-pub resolve-push_front-g-requires-in-Two : goal.resolve-push_front-g-requires-in-Two
-resolve-push_front-g-requires-in-Two t c = c.resolve.ensures.wide
+pub resolve-push_front-requires : goal.resolve-push_front-requires
+resolve-push_front-requires t c = c.resolve.ensures.wide
 
-pub resolve-returns-then-not-g-clause-keeps : goal.resolve-returns-then-not-g-clause-keeps
-resolve-returns-then-not-g-clause-keeps t c = let a = c.args in
+pub resolve-returns-in_default-clause-keeps : goal.resolve-returns-in_default-clause-keeps
+resolve-returns-in_default-clause-keeps t c = let a = c.args in
     let h = c.resolve.ensures.keeps in
     let b = c.resolve.new.a in
     let k = as_parts a.l.now a.at a.left c.node_at-node.result c.node_at-node.ensures Parts.Two c.in-Two.is in
     let q = subst (λ (n : ℕ). Substitutes a.l.now n (a.left - 1) a.params.now b) k.0 h.means in
     record {
       falls = omega (arith, h.falls);
-      means = two_full a.l.now a.at a.left a.params.now b (not-false _ c.if-not-a.false-raw) _ c.push_front-g-in-Two.result (λ z. omega (arith, k.2.0, z)) k.3 q _ (c.push_front-g-in-Two.ensures.0 false) (not-true _ c.if-not-g.true) _ refl;
+      means = two_full a.l.now a.at a.left a.params.now b (not-false _ c.if-not-a.false-raw) _ (record { ok = false; len = 0 }) (λ z. omega (arith, k.2.0, z)) k.3 q _ (longer_none _ false c.in_default.is (c.push_front.ensures.0 false)) refl _ refl;
     }
 
 pub resolve-append-e-requires : goal.resolve-append-e-requires
 resolve-append-e-requires t c = let a = c.args in
     let k = as_parts a.l.now a.at a.left c.node_at-node.result c.node_at-node.ensures Parts.Two c.in-Two.is in
-    (omega (arith, c.decreases, k.2.0, c.resolve.ensures.keeps.falls), (c.requires, c.push_front-g-in-Two.ensures.1, ((c.push_front-g-in-Two.ensures.0 false).runs (not-false _ c.if-not-g.false)).small))
+    (omega (arith, c.decreases, k.2.0, c.resolve.ensures.keeps.falls), (c.requires, c.push_front.ensures.1, ((longer_some _ false c.in-Some.is (c.push_front.ensures.0 false)).runs refl).small))
 
 pub resolve-returns-in-Two-clause-keeps : goal.resolve-returns-in-Two-clause-keeps
 resolve-returns-in-Two-clause-keeps t c = let a = c.args in
@@ -230,7 +230,7 @@ resolve-returns-in-Two-clause-keeps t c = let a = c.args in
     let q = subst (λ (n : ℕ). Substitutes a.l.now n (a.left - 1) a.params.now b) k.0 h.means in
     record {
       falls = omega (arith, h.falls, e.falls);
-      means = two_arm a.l.now a.at a.left a.params.now b (not-false _ c.if-not-a.false-raw) _ c.push_front-g-in-Two.result (λ z. omega (arith, k.2.0, z)) k.3 q _ c.section_word-code-in-Two.ensures (c.push_front-g-in-Two.ensures.0 false) (not-false _ c.if-not-g.false) c.append-e.result _ e.means h.falls;
+      means = two_arm a.l.now a.at a.left a.params.now b (not-false _ c.if-not-a.false-raw) _ (record { ok = true; len = c.in-Some.len }) (λ z. omega (arith, k.2.0, z)) k.3 q _ c.section_word-code-in-Two.ensures (longer_some _ false c.in-Some.is (c.push_front.ensures.0 false)) refl c.append-e.result _ e.means h.falls;
     }
 
 pub resolve-expand-e-requires : goal.resolve-expand-e-requires

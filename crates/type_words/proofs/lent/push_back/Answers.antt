@@ -1,25 +1,19 @@
--- `type_words::lent::push_back` meets its contract. The loop's invariant: i words of the other run stand behind the n of this one. Assumes nothing.
-use Prim.Native.Nat.{ℕ, ◌+◌, ◌-◌, ◌≤◌}
+-- `type_words::lent::push_back` meets its contract. Assumes nothing.
 use native.Mathlib.Omega.{arith}
 use mathlib.Core.Path.{◌≡◌, ap, ◌∙◌}
 use mathlib.Core.List.{List, ◌++◌}
 use lib.ListN.{length, take}
+use borrow.Author.Rules.{rules}
+use borrow.Rule.Slice.PartMut.{same_len_mid}
+use Rattle.std.proofs.lemmas.Slice.{take-put_mid}
 use Rattle.type_words.proofs.Runs.{run_take, counted, grown}
-use Rattle.type_words.specs.declared.HeldType.{HeldType}
 use Rattle.type_words.proofs.lent.push_back.Goals as goal
-
-record Inv (n m : ℕ) (other : HeldType) (words₀ words : List ℕ) (i : ℕ) : Type 0 where
-  within : i ≤ m
-  room : n + m ≤ 64
-  from_wide : length other.words ≡ 64
-  wide : length words ≡ 64
-  copied : take (n + i) words ≡ take n words₀ ++ take i other.words
 
 pub returns : goal.returns
 returns c =
-    let v = c.loop-i.invariant in
-    let e : c.loop-i.i ≡ c.count-m.result = omega (arith, v.within) in (
-      λ p. grown _ _ (counted _ _ _ v.wide v.room
-          (rw e at v.copied ∙ ap (λ (l : List ℕ). take c.args.n c.args.words.now ++ l) (run_take c.args.other _ v.from_wide c.count-m.ensures.0))),
-      v.wide,
-    )
+    let a = c.args in
+    let new = c.copy_from_slice.ensures in
+    let from : length a.other.words ≡ 64 = search rules in
+    let wide = same_len_mid a.n _ a.words.now _ new.len ∙ c.requires.0 in
+    let put = take-put_mid a.n _ a.words.now _ _ (omega (arith, new.len)) (omega arith) in
+    (λ p. grown _ _ (counted _ _ _ wide (omega arith) (put ∙ ap (λ (l : List _). take a.n a.words.now ++ l) (new.after ∙ run_take a.other _ from c.count-m.ensures.0))), wide)

@@ -1,5 +1,5 @@
 -- `type_words::lent::push_front` meets its contract. The loop's invariant: below i stand the new words, from i on the old ones, and the word between is carried. Assumes nothing.
-use Prim.Native.Nat.{ℕ, ◌+◌, ◌-◌, ◌≤◌, ◌<◌}
+use Prim.Native.Nat.{ℕ, ◌+◌, ◌≤◌, ◌<◌}
 use mathlib.Core.Path.{◌≡◌}
 use mathlib.Core.List.{List, ◌∷◌}
 use lib.ListN.{length, take, get_or}
@@ -16,6 +16,3 @@ pub record Inv (word n : ℕ) (words₀ words : List ℕ) (carry i : ℕ) : Type
 
 abbrev pub invariant-loop-i : goal.invariant-loop-i
 invariant-loop-i l = Inv l.word l.n l.initial.words l.words l.carry l.i
-
-abbrev pub decreases-loop-i : goal.decreases-loop-i
-decreases-loop-i l = l.n + 1 - l.i
