@@ -23,23 +23,42 @@ fn due_bytes(left: usize, least: u8, most: u8) -> Option<Due>
     Some(Due { left, least, most })
 }
 
-// What must follow a character's first byte: table 3-7, row by row. Nothing, where no character begins so.
+// What must follow a character's first byte: table 3-7, by ascending bytes. Nothing, where no character begins so.
+// No `match` of its ranges: tried, it took a text of two-byte characters a sixth longer, and of ASCII a third.
 fn begin(first: u8) -> Option<Due>
     ensures { Tells (follow first) result }
 {
-    match first {
-        0x00..=0x7F => due_bytes(0, 0x80, 0xBF),
-        0x80..=0xC1 => None,
-        0xC2..=0xDF => due_bytes(1, 0x80, 0xBF),
-        0xE0 => due_bytes(2, 0xA0, 0xBF),
-        0xE1..=0xEC => due_bytes(2, 0x80, 0xBF),
-        0xED => due_bytes(2, 0x80, 0x9F),
-        0xEE..=0xEF => due_bytes(2, 0x80, 0xBF),
-        0xF0 => due_bytes(3, 0x90, 0xBF),
-        0xF1..=0xF3 => due_bytes(3, 0x80, 0xBF),
-        0xF4 => due_bytes(3, 0x80, 0x8F),
-        0xF5..=0xFF => None,
+    if first < 0x80 {
+        return due_bytes(0, 0x80, 0xBF);
     }
+    if first < 0xC2 {
+        return None;
+    }
+    if first < 0xE0 {
+        return due_bytes(1, 0x80, 0xBF);
+    }
+    if first < 0xE1 {
+        return due_bytes(2, 0xA0, 0xBF);
+    }
+    if first < 0xED {
+        return due_bytes(2, 0x80, 0xBF);
+    }
+    if first < 0xEE {
+        return due_bytes(2, 0x80, 0x9F);
+    }
+    if first < 0xF0 {
+        return due_bytes(2, 0x80, 0xBF);
+    }
+    if first < 0xF1 {
+        return due_bytes(3, 0x90, 0xBF);
+    }
+    if first < 0xF4 {
+        return due_bytes(3, 0x80, 0xBF);
+    }
+    if first < 0xF5 {
+        return due_bytes(3, 0x80, 0x8F);
+    }
+    None
 }
 
 // What is due behind one byte more. Nothing, where no character has it there.
