@@ -52,6 +52,7 @@ fn is_joined_row(
     )
 }
 
+// NONE where no row has it: a row's number as the image has it, and as the rules' `find_row` gives it.
 pub fn find_qualified(
     image: &[u8],
     names_start: usize,

@@ -74,7 +74,7 @@ fn next_due(d: Due, byte: u8) -> Option<Due>
     None
 }
 
-// Whether the first eight bytes are ASCII.
+// Whether the first eight bytes are ASCII: one test, with no early end as `all` would have after each byte.
 fn eight_ascii(text: &[u8]) -> bool
     requires { 8 ≤ length text.now }
     ensures { result ≡ ascii_to 8 text.now }
@@ -89,7 +89,8 @@ fn eight_ascii(text: &[u8]) -> bool
         & (text[7] < 0x80)
 }
 
-// Where the walk may begin: behind eights of ASCII at the start, which are most of most texts.
+// Where the walk may begin: behind eights of ASCII at the start, which are most of most texts. The answer is a place, so an iterator over
+// the eights would have to be counted beside.
 fn behind_ascii(text: &[u8]) -> usize
     ensures { Begins text.now result }
 {
