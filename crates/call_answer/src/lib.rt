@@ -62,9 +62,8 @@ fn answer_readable(
 {
     let mut first = [0u8; FIRST_PASS];
     let m = pass(call, l, number, &mut first);
-    let e = call_finish::finish(m, &first, output, detail);
-    if e.done {
-        return e.answer;
+    if let Some(answer) = call_finish::finish(m, &first, output, detail) {
+        return answer;
     }
     let w = pass(call, l, number, output);
     answers::answer::accept(w.length as u32, w.visits)

@@ -6,13 +6,6 @@ ghost use Rattle.call_finish.specs.Ends.{Ends};
 
 use answers::answer::{Answer, Outcome};
 
-// Whether the call is answered. If not, its words fit the output and not the first pass's buffer: a second pass writes them.
-#[derive(Clone, Copy)]
-pub struct Ending {
-    pub done: bool,
-    pub answer: Answer,
-}
-
 // The first n bytes over the output's start.
 fn copy_start(first: &[u8], output: &mut [u8], n: usize)
     requires { (n ≤ length first.now) × (n ≤ length output.old) }
@@ -21,28 +14,23 @@ fn copy_start(first: &[u8], output: &mut [u8], n: usize)
     output[..n].copy_from_slice(&first[..n]);
 }
 
-// The first pass came to m, with its words in `first` as far as they fit it.
-pub fn finish(m: Outcome, first: &[u8], output: &mut [u8], detail: &mut [u8]) -> Ending
+// The answer, where the first pass came to m with its words in `first` as far as they fit it. None, where they fit the output and not
+// `first`: a second pass writes them.
+pub fn finish(m: Outcome, first: &[u8], output: &mut [u8], detail: &mut [u8]) -> Option<Answer>
     requires { (576 ≤ length detail.old) × (m.ok ≡ true → m.length < 4294967296) }
     ensures { Ends m first.now output.old output.new detail.old detail.new result }
 {
     if !m.ok {
         let r = m.refusal;
-        let answer = answers::answer::refuse(detail, r);
-        return Ending { done: true, answer };
+        return Some(answers::answer::refuse(detail, r));
     }
     let n = m.length;
     if output.len() < n {
-        let answer = answers::answer::too_short(n as u32);
-        return Ending { done: true, answer };
+        return Some(answers::answer::too_short(n as u32));
     }
-    let answer = answers::answer::accept(n as u32, m.visits);
     if first.len() < n {
-        return Ending {
-            done: false,
-            answer,
-        };
+        return None;
     }
     copy_start(first, output, n);
-    Ending { done: true, answer }
+    Some(answers::answer::accept(n as u32, m.visits))
 }

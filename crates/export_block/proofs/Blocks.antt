@@ -1,23 +1,24 @@
--- Five words stored one by one, and an answer's words by its equation. Assumes nothing.
+-- Words laid over a block, an answer's words by its equation. Assumes nothing.
 use Prim.Native.Nat.{ℕ, ◌<◌, ◌≤◌}
 use mathlib.Core.Path.{◌≡◌, refl, ap, ◌∙◌}
-use mathlib.Core.List.{List, [], ◌∷◌}
+use mathlib.Core.List.{List, [], ◌∷◌, ◌++◌}
 use native.Mathlib.Omega.{arith}
-use lib.ListN.{length, set}
+use lib.ListN.{length, drop}
 use Rattle.rules.specs.Words.{over_start}
 use Rattle.rules.specs.Answer as rules
 use Rattle.answers.specs.declared.answer.Answer.{Answer}
 use Rattle.answers.specs.Answers.{answer_of}
 use Rattle.export_block.specs.Block.{five, words_of, SHORT, Exported}
 
-pub stored : (v w x y z : ℕ) (b : List ℕ) → 5 ≤ length b → set (set (set (set (set b 0 v) 1 w) 2 x) 3 y) 4 z ≡ over_start (v ∷ w ∷ x ∷ y ∷ z ∷ []) b
+-- words laid over a block's start
+pub laid : {vs : List ℕ} (ws b : List ℕ) → vs ≡ ws → length ws ≤ length b → vs ++ drop (length ws) b ≡ over_start ws b
 unfolding over_start
-stored v w x y z (_ ∷ _ ∷ _ ∷ _ ∷ _ ∷ rest) h = refl
-stored v w x y z [] h = absurd (omega arith)
-stored v w x y z (_ ∷ []) h = absurd (omega arith)
-stored v w x y z (_ ∷ _ ∷ []) h = absurd (omega arith)
-stored v w x y z (_ ∷ _ ∷ _ ∷ []) h = absurd (omega arith)
-stored v w x y z (_ ∷ _ ∷ _ ∷ _ ∷ []) h = absurd (omega arith)
+laid ws b e h = rw e (fits ws b h)
+  where
+    fits : (ws b : List ℕ) → length ws ≤ length b → ws ++ drop (length ws) b ≡ over_start ws b
+    fits [] b h = refl
+    fits (w ∷ ws) [] h = absurd (omega arith)
+    fits (w ∷ ws) (o ∷ os) h = ap (λ (l : List ℕ). w ∷ l) (fits ws os (omega arith))
 
 -- the words of an answer that is the rules'
 pub same_words : (a : Answer) (output detail : List ℕ) → words_of a ≡ five (answer_of a output detail)

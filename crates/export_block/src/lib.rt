@@ -20,10 +20,7 @@ pub fn put_answer(block: &mut [u32], a: Answer) -> u32
 {
     let function = a.function;
     let second = a.second;
-    block[0] = a.number;
-    block[1] = function.0;
-    block[2] = second.0;
-    block[3] = a.length;
-    block[4] = a.visits;
+    let words = [a.number, function.0, second.0, a.length, a.visits];
+    block[..ANSWER_WORDS].copy_from_slice(&words);
     a.number
 }

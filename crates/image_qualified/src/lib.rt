@@ -52,6 +52,7 @@ fn is_joined_row(
     )
 }
 
+// NONE where no row has it: a row's number as the image has it, and as the rules' `find_row` gives it.
 pub fn find_qualified(
     image: &[u8],
     names_start: usize,
@@ -64,13 +65,11 @@ pub fn find_qualified(
 {
     let first = text_of(image, names_start, namespace);
     let second = text_of(image, names_start, name);
-    let mut i = 0;
-    while i < names {
+    for i in 0..names {
         let row = NameId(i as u32);
         if is_joined_row(image, names_start, row, first, second) {
             return row;
         }
-        i += 1;
     }
     NameId::NONE
 }

@@ -5,8 +5,8 @@ use lib.Dec.{eqb}
 use borrow.Author.Tests.{eqb-false}
 use mathlib.Core.List.{List}
 use Prim.Native.Nat.{ℕ, zero, suc, ◌+◌, ◌*◌, ◌%◌, ◌<◌, ◌≤◌}
-use lib.ListN.{length, get_or, set, drop, drop_of_length-le, replicate}
-use lib.Seq.{drop-cons, get_or-set_same, get_or-set_other}
+use lib.ListN.{length, get_or, set, take, drop, length-take, drop_of_length-le, replicate}
+use lib.Seq.{drop-cons, get_or-take, get_or-set_same, get_or-set_other}
 use native.Mathlib.Omega.{arith}
 use native.Mathlib.Nat.{lt_irrefl}
 use native.Mathlib.Numerals.{add-one}
@@ -48,3 +48,7 @@ blank_all (suc m) (suc i) l = blank_all m i (omega arith)
 pub apart_more : (hs : List ℕ) (j h : ℕ) (any : Bool) → (any ≡ false → Apart hs j h) → any || eqb (get_or hs j 0) h ≡ false → Apart hs (j + 1) h
 apart_more hs j h true below e = absurd (true≢false e)
 apart_more hs j h false below e = below_more (λ (k : ℕ). get_or hs k 0 ≡ h → ⊥) j (below refl) (eqb-false _ _ e)
+
+-- none of the numbers that were taken from the front
+pub apart_taken : (hs : List ℕ) (n h : ℕ) → n ≤ length hs → Apart (take n hs) (length (take n hs)) h → Apart hs n h
+apart_taken hs n h l a j m e = a j (omega (arith, length-take n hs)) (get_or-take n hs j 0 m ∙ e)

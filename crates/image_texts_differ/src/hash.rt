@@ -6,20 +6,12 @@ use image_texts::row::text_of;
 use rules::bounds::NAMES;
 use rules::ids::NameId;
 
-fn wide(b: u8) -> u32
-    ensures { (result ≡ b) × (result < 256) }
-{
-    b as u32
-}
-
 pub fn hash(s: &[u8]) -> u32
     ensures { result ≡ hash_of s.now }
 {
     let mut h: u32 = 0;
-    let mut i = 0;
-    while i < s.len() {
-        h = h % 134217728 * 31 + wide(s[i]);
-        i += 1;
+    for byte in s {
+        h = h % 134217728 * 31 + u32::from(*byte);
     }
     h
 }
@@ -30,10 +22,8 @@ pub fn hashes(image: &[u8], names_start: usize, names: usize) -> [u32; NAMES]
     ensures { (1024 ≡ length result) × Hashes image.now names_start names result × Blank names result }
 {
     let mut hs = [0u32; NAMES];
-    let mut i = 0;
-    while i < names {
+    for i in 0..names {
         hs[i] = hash(text_of(image, names_start, NameId(i as u32)));
-        i += 1;
     }
     hs
 }

@@ -29,16 +29,13 @@ fn clash(image: &[u8], names_start: usize, hs: &[u32], name: NameId, earlier: Na
     )
 }
 
-// Whether one of the first n numbers is h. It has no early end, so that many can be compared at once.
-fn among(hs: &[u32], n: usize, h: u32) -> bool
-    requires { n ≤ length hs.now }
-    ensures { result ≡ false → Apart hs.now n h }
+// Whether one of these numbers is h. It has no early end, so that many can be compared at once.
+fn among(hs: &[u32], h: u32) -> bool
+    ensures { result ≡ false → Apart hs.now (length hs.now) h }
 {
     let mut any = false;
-    let mut j = 0;
-    while j < n {
-        any = any | (hs[j] == h);
-        j += 1;
+    for number in hs {
+        any = any | (*number == h);
     }
     any
 }
@@ -48,13 +45,10 @@ fn no_clash(image: &[u8], names_start: usize, hs: &[u32], name: NameId) -> bool
     requires { (names_start ≤ 65536) × (name.0 < length hs.now) × Hashes image.now names_start (name.0 + 1) hs.now }
     ensures { result ≡ new_row image.now names_start name.0 }
 {
-    let i = name.0 as usize;
-    let mut j = 0;
-    while j < i {
-        if clash(image, names_start, hs, name, NameId(j as u32)) {
+    for j in 0..name.0 {
+        if clash(image, names_start, hs, name, NameId(j)) {
             return false;
         }
-        j += 1;
     }
     true
 }
@@ -65,8 +59,7 @@ fn is_new(image: &[u8], names_start: usize, hs: &[u32], name: NameId) -> bool
     ensures { result ≡ new_row image.now names_start name.0 }
 {
     let i = name.0 as usize;
-    let h = hs[i];
-    if !among(hs, i, h) {
+    if !among(&hs[..i], hs[i]) {
         return true;
     }
     no_clash(image, names_start, hs, name)
@@ -76,12 +69,10 @@ fn all_new(image: &[u8], names_start: usize, names: usize, hs: &[u32]) -> bool
     requires { (names_start ≤ 65536) × (names ≤ 1024) × (1024 ≤ length hs.now) × Hashes image.now names_start names hs.now }
     ensures { result ≡ rows_differ image.now names_start names }
 {
-    let mut i = 0;
-    while i < names {
+    for i in 0..names {
         if !is_new(image, names_start, hs, NameId(i as u32)) {
             return false;
         }
-        i += 1;
     }
     true
 }

@@ -46,7 +46,7 @@ fn whole_rows(start: usize, stop: usize, width: usize, most: usize) -> bool
     requires { (1 ≤ width) × (width ≤ 4) }
     ensures { result ≡ whole_rows start stop (4 * width) most }
 {
-    let bytes = image_words::less(stop, start);
+    let bytes = stop.saturating_sub(start);
     (start <= stop) & (bytes % (4 * width) == 0) & (bytes / (4 * width) <= most)
 }
 

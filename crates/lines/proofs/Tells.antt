@@ -1,12 +1,12 @@
 -- Laws: bytes laid into a lent text, one run behind the other.
-use Prim.Native.Nat.{ℕ, suc, ◌+◌, ◌-◌, ◌<◌, ◌≤◌, min}
+use Prim.Native.Nat.{ℕ, suc, ◌+◌, ◌-◌, ◌≤◌, min}
 use mathlib.Core.Path.{◌≡◌, refl, sym, ap, subst, ◌∙◌}
-use mathlib.Core.List.{List, [], ◌∷◌, ◌++◌}
+use mathlib.Core.List.{List, [], ◌∷◌, ◌++◌, append_assoc}
 use native.Mathlib.Omega.{arith}
 use native.Mathlib.Decide.{dec_le}
-use native.Mathlib.Numerals.{add-one}
-use lib.ListN.{length, set, get_or, take, drop, length-append, length-set, take-append-drop}
-use lib.Seq.{set_out, sets, sets-eq, take-suc, take_all, take_at, length-take-le}
+use lib.ListN.{length, set, take, drop, length-append, length-set, take-append-drop}
+use lib.Seq.{set_out, sets, sets-eq, take_all, take_at, length-take-le, drop-drop}
+use borrow.Rule.Slice.PartMut.{put_mid}
 use Rattle.lines.specs.Text.{overlay, Tells}
 
 -- the text keeps its length
@@ -33,15 +33,6 @@ as_stores : (at : ℕ) (bs xs : List ℕ) → overlay at bs xs ≡ sets xs at bs
 unfolding overlay
 as_stores at [] xs = refl
 as_stores at (b ∷ bs) xs = as_stores (suc at) bs (set xs at b)
-
--- one byte more of those that are laid
-pub overlay_more : (at i : ℕ) (bs xs : List ℕ) → i < length bs → set (overlay at (take i bs) xs) (at + i) (get_or bs i 0) ≡ overlay at (take (i + 1) bs) xs
-unfolding overlay
-overlay_more at i bs xs h =
-    let e : at + i ≡ at + length (take i bs) = omega (arith, length-take-le i bs (omega arith)) in
-    ap (λ (n : ℕ). set (overlay at (take i bs) xs) n (get_or bs i 0)) e
-    ∙ sym (overlay_append at (take i bs) (get_or bs i 0 ∷ []) xs)
-    ∙ ap (λ (l : List ℕ). overlay at l xs) (sym (take-suc bs i 0 h) ∙ ap (λ (n : ℕ). take n bs) (sym (add-one i)))
 
 -- as many as there is room for stand for all
 overlay_cut : (at n : ℕ) (bs xs : List ℕ) → at ≤ length xs → n ≡ min (length bs) (length xs - at) → overlay at (take n bs) xs ≡ overlay at bs xs
@@ -96,3 +87,9 @@ tells_same {at = at} {next} {old} {new} e t = subst (λ (l : List ℕ). Tells l 
 -- as many as there is room for, laid one by one
 pub tells_cut : {at n : ℕ} {bs old new : List ℕ} → at ≤ length old → n ≡ min (length bs) (length old - at) → new ≡ overlay at (take n bs) old → Tells bs at (at + n) old new
 tells_cut {at} {n} {bs} {old} h e b = record { place = omega (arith, e); bytes = b ∙ overlay_cut at n bs old h e }
+
+-- bytes copied into a part of the text
+pub laid : (at n : ℕ) (xs : List ℕ) {ys zs : List ℕ} → at + n ≤ length xs → ys ≡ zs → length zs ≡ n → put_mid at (at + n - at) xs ys ≡ overlay at zs xs
+laid at n xs {ys} {zs} h e l =
+    let size : at + n - at ≡ length zs = omega arith in
+    rw (e, size, drop-drop (length zs) at xs) (sym (as_stores at zs xs ∙ sets-eq zs xs at (omega arith) ∙ append_assoc (take at xs) zs (drop (at + length zs) xs)))

@@ -6,7 +6,7 @@ ghost use Rattle.answers.specs.Answers.{answer_of};
 ghost use Rattle.lines.specs.Text.{Tells};
 ghost use Rattle.lines.specs.Lines.{line_text, lines_text, fields_of};
 
-use crate::text::{least, put_number};
+use crate::text::put_number;
 use answers::answer::Answer;
 
 // The five fields on a line.
@@ -28,12 +28,10 @@ fn put_words(text: &mut [u8], at: usize, output: &[u8], size: u32) -> usize
     requires { at ≤ length text.old }
     ensures { Tells (lines_text (map (λ w. w ∷ []) (words (take size output.now)))) at result text.old text.new }
 {
-    let count = least(size as usize, output.len()) / 4;
+    let count = output.len().min(size as usize) / 4;
     let mut next = at;
-    let mut i = 0;
-    while i < count {
+    for i in 0..count {
         next = put_number(text, next, words::word_at(output, 4 * i), b'\n');
-        i += 1;
     }
     next
 }

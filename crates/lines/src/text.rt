@@ -1,27 +1,16 @@
 // Bytes and decimal numbers, one behind the other in a lent text, cut where it ends. Each function says where the next
 // byte goes.
-ghost use Rattle.std.specs.Prelude.{◌≤◌, min, ◌≡◌, [], ◌∷◌, ◌++◌, length};
+ghost use Rattle.std.specs.Prelude.{◌≤◌, [], ◌∷◌, ◌++◌, length};
 ghost use Rattle.lines.specs.Text.{Tells};
 ghost use Rattle.lines.specs.Decimal.{decimal};
-
-// The smaller number.
-pub(crate) fn least(a: usize, b: usize) -> usize
-    ensures { result ≡ min a b }
-{
-    if a < b { a } else { b }
-}
 
 // Some bytes.
 pub fn put_bytes(text: &mut [u8], at: usize, bytes: &[u8]) -> usize
     requires { at ≤ length text.old }
     ensures { Tells bytes.now at result text.old text.new }
 {
-    let n = least(bytes.len(), text.len() - at);
-    let mut i = 0;
-    while i < n {
-        text[at + i] = bytes[i];
-        i += 1;
-    }
+    let n = bytes.len().min(text.len() - at);
+    text[at..at + n].copy_from_slice(&bytes[..n]);
     at + n
 }
 
@@ -40,6 +29,6 @@ pub fn put_number(text: &mut [u8], at: usize, n: u32, end: u8) -> usize
     requires { at ≤ length text.old }
     ensures { Tells (decimal n ++ (end ∷ [])) at result text.old text.new }
 {
-    let next = put_decimal(text, at, n as u64);
+    let next = put_decimal(text, at, u64::from(n));
     put_bytes(text, next, &[end])
 }

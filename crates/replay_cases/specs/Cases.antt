@@ -1,5 +1,5 @@
 -- A stored case as its words tell it (vectors/README.md).
-use Rattle.std.specs.Prelude.{ℕ, ◌+◌, ◌≤◌, ◌≡◌, Bool, true, false, ◌&&◌, List, leb, length}
+use Rattle.std.specs.Prelude.{ℕ, ◌+◌, ◌≤◌, ◌≡◌, Bool, true, false, ◌&&◌, Option, Some, None, IfSome, List, leb, length}
 use Rattle.words.specs.Words.{word_at}
 use Rattle.replay_cases.specs.declared.case.Case.{Case}
 
@@ -10,7 +10,6 @@ case_end file at = at + 48 + word_at file (at + 16) + word_at file (at + 40) + w
 -- each field by its place
 abbrev pub case_words : List ℕ → ℕ → Case
 case_words file at = record {
-  ok = leb (word_at file (at + 8)) 65536 && leb (word_at file (at + 12)) 1024;
   call = word_at file at;
   row = record { 0 = word_at file (at + 4) };
   output = word_at file (at + 8);
@@ -22,32 +21,21 @@ case_words file at = record {
   next = case_end file at;
 }
 
--- a file that ends inside a case
-abbrev pub no_case : Case
-no_case = record {
-  ok = false;
-  call = 0;
-  row = record { 0 = 0 };
-  output = 0;
-  detail = 0;
-  fields = 0;
-  image = record { start = 0; size = 0 };
-  written = record { start = 0; size = 0 };
-  told = record { start = 0; size = 0 };
-  next = 0;
-}
+-- whether it ends inside the file, and lends no more than a replay has room for
+abbrev pub is_case : List ℕ → ℕ → Bool
+is_case file at = leb (case_end file at) (length file) && (leb (word_at file (at + 8)) 65536 && leb (word_at file (at + 12)) 1024)
 
-abbrev pub whole_or_none : Bool → Case → Case
-whole_or_none true c = c
-whole_or_none false c = no_case
+abbrev pub case_when : Bool → Case → Option Case
+case_when true c = Some c
+case_when false c = None
 
 -- the case at a place of a file
-unfoldable pub case_at : List ℕ → ℕ → Case
-case_at file at = whole_or_none (leb (case_end file at) (length file)) (case_words file at)
+unfoldable pub case_at : List ℕ → ℕ → Option Case
+case_at file at = case_when (is_case file at) (case_words file at)
 
 -- the case that was read; the next one's place lies in the file
-abbrev pub ReadsCase : List ℕ → ℕ → Case → Type 0
-ReadsCase file at r = (r.next ≤ length file) × (r ≡ case_at file at)
+abbrev pub ReadsCase : List ℕ → ℕ → Option Case → Type 0
+ReadsCase file at r = IfSome r (λ c. c.next ≤ length file) × (r ≡ case_at file at)
 
 -- a case that can be asked: its words lie in the file, and it lends no more than a replay has room for
 abbrev pub Askable : List ℕ → Case → Type 0

@@ -1,7 +1,7 @@
 // A stored case: twelve words, then the bytes of the image, of the output and of the detail (vectors/README.md).
-ghost use Rattle.std.specs.Prelude.{◌≡◌, ◌+◌, ◌≤◌, ◌<◌, ◌^◌, min, length, take, drop};
+ghost use Rattle.std.specs.Prelude.{◌≡◌, ◌+◌, ◌≤◌, ◌<◌, ◌^◌, length, take, drop};
 ghost use Rattle.words.specs.Words.{word_at};
-ghost use Rattle.replay_cases.specs.Cases.{ReadsCase, no_case};
+ghost use Rattle.replay_cases.specs.Cases.{ReadsCase};
 
 use rules::ids::TypeId;
 
@@ -17,10 +17,9 @@ pub struct Part {
     pub size: usize,
 }
 
-// A case by its places in the file; ok where all lies inside it and no more is lent than a replay has.
+// A case by its places in the file. Each part is a place and a size, not a slice: so a case is its words, and `case_at` one equation.
 #[derive(Clone, Copy)]
 pub struct Case {
-    pub ok: bool,
     pub call: u32,
     pub row: TypeId,
     pub output: usize,
@@ -30,31 +29,6 @@ pub struct Case {
     pub written: Part,
     pub told: Part,
     pub next: usize,
-}
-
-// The smaller number.
-pub fn least(a: usize, most: usize) -> usize
-    ensures { result ≡ min a most }
-{
-    if a < most { a } else { most }
-}
-
-fn no_case() -> Case
-    ensures { result ≡ no_case }
-{
-    let p = Part { start: 0, size: 0 };
-    Case {
-        ok: false,
-        call: 0,
-        row: TypeId(0),
-        output: 0,
-        detail: 0,
-        fields: 0,
-        image: p,
-        written: p,
-        told: p,
-        next: 0,
-    }
 }
 
 // One of the case's words.
@@ -73,9 +47,9 @@ fn size(file: &[u8], at: usize, k: usize) -> usize
     word(file, at, k) as usize
 }
 
-// The case at a place. Its sizes are words, so no sum here wraps; a word past the file's end counts as 0, and then the
-// case does not end inside the file.
-pub fn read(file: &[u8], at: usize) -> Case
+// The case at a place, where all of it lies inside the file and no more is lent than a replay has. Its sizes are words, so no sum here
+// wraps; a word past the file's end counts as 0, and then the case does not end inside the file.
+pub fn read(file: &[u8], at: usize) -> Option<Case>
     requires { at ≤ length file.now }
     ensures { ReadsCase file.now at result }
 {
@@ -87,12 +61,17 @@ pub fn read(file: &[u8], at: usize) -> Case
     let third = second + written;
     let next = third + told;
     if file.len() < next {
-        return no_case();
+        return None;
     }
     let output = size(file, at, 8);
+    if MOST_OUTPUT < output {
+        return None;
+    }
     let detail = size(file, at, 12);
-    Case {
-        ok: (output <= MOST_OUTPUT) & (detail <= MOST_DETAIL),
+    if MOST_DETAIL < detail {
+        return None;
+    }
+    Some(Case {
         call: words::word_at(file, at),
         row: TypeId(word(file, at, 4)),
         output,
@@ -111,7 +90,7 @@ pub fn read(file: &[u8], at: usize) -> Case
             size: told,
         },
         next,
-    }
+    })
 }
 
 // A part's bytes; as many of them as there are, where it does not end in the file.

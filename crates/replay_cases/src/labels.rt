@@ -26,5 +26,5 @@ pub fn next(names: &[u8], end: usize) -> usize
     requires { end ≤ length names.now }
     ensures { result ≡ next_line names.now end }
 {
-    crate::case::least(end + 1, names.len())
+    names.len().min(end + 1)
 }

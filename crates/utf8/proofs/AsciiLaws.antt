@@ -38,3 +38,7 @@ eight_further text i b l f y =
     let whole : take (length text - i) (drop i text) ≡ drop i text = take_all (length text - i) (drop i text) (omega arith) in
     let a : ascii_to 8 (drop i text) ≡ true = ap (ascii_to 8) (sym whole) ∙ sym f ∙ y in
     record { inside = l; decides = ap well_formed (sym (drop-drop 8 i text)) ∙ sym (ascii_bytes 8 (drop i text) (omega arith) a) ∙ b.decides }
+
+-- from there on the walk decides
+pub from_there : (text : List ℕ) (i : ℕ) → Begins text i → well_formed (take (length text - i) (drop i text)) ≡ well_formed text
+from_there text i b = ap well_formed (take_all (length text - i) (drop i text) (omega (arith, length-drop i text, b.inside))) ∙ b.decides

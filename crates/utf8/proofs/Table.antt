@@ -1,17 +1,21 @@
 -- Table 3-7 read both ways, the row of a byte and the byte of a row; and one step of the walk.
 use Prim.Native.Nat.{ℕ, zero, suc, ◌≤◌, ◌<◌}
 use native.Mathlib.Omega.{arith}
-use mathlib.Core.Path.{◌≡◌, refl, ap, subst, ◌∙◌}
+use mathlib.Core.Path.{◌≡◌, refl, sym, ap, subst, ◌∙◌}
 use mathlib.Core.Bool.{Bool, true, false, ◌&&◌}
 use mathlib.Core.List.{List, [], ◌∷◌}
 use mathlib.Core.Option.{Option, none, some}
 use lib.ListN.{get_elem?}
 use lib.Dec.{leb}
 use borrow.Author.Tests.{le-leb, lt-leb}
+use Rattle.std.specs.Prelude.{None}
+use Rattle.std.specs.Prelude as code
 use Rattle.rules.proofs.Clash.{clash}
 use Rattle.rules.proofs.Types.{within_true}
 use Rattle.rules.specs.Good.{All}
 use Rattle.rules.specs.Utf8.{Range, inside, table, row_of, follow, well_formed_from, well_formed}
+use Rattle.utf8.specs.declared.Due.{Due}
+use Rattle.utf8.specs.Due.{Tells}
 
 abbrev Row : Type 0
 Row = Range × List Range
@@ -75,6 +79,13 @@ no_row_low b low high = by_row (λ (o : Option (List Range)). o ≡ none) b (λ 
 
 pub no_row_high : (b : ℕ) → 0xF5 ≤ b → follow b ≡ none
 no_row_high b high = by_row (λ (o : Option (List Range)). o ≡ none) b (λ l h. absurd (omega arith), (λ l h. absurd (omega arith), (λ l h. absurd (omega arith), (λ l h. absurd (omega arith), (λ l h. absurd (omega arith), (λ l h. absurd (omega arith), (λ l h. absurd (omega arith), (λ l h. absurd (omega arith), (λ l h. absurd (omega arith), tt))))))))) refl
+
+-- what the code holds of a byte in the range of row i, and of one that begins no character
+pub in_row : (i : ℕ) {r : Row} → get_elem? table i ≡ some r → {b : ℕ} → r.0.least ≤ b → b ≤ r.0.most → {d : code.Option Due} → Tells (some r.1) d → Tells (follow b) d
+in_row i e {b} l h t = record { is = t.is ∙ sym (row i e b l h) }
+
+pub in_no_row : (b : ℕ) → follow b ≡ none → Tells (follow b) None
+in_no_row b e = record { is = sym e }
 
 -- one step of the walk
 pub start : (b : ℕ) (bs : List ℕ) (rs : List Range) → follow b ≡ some rs → well_formed (b ∷ bs) ≡ well_formed_from rs bs

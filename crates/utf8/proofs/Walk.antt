@@ -3,16 +3,19 @@ use Prim.Native.Nat.{ℕ, zero, suc, ◌+◌, ◌-◌, ◌<◌, ◌≤◌}
 use native.Mathlib.Numerals.{add-one}
 use native.Mathlib.Omega.{arith}
 use mathlib.Core.Path.{◌≡◌, refl, sym, ap, ◌∙◌}
-use mathlib.Core.Bool.{Bool, true, false, cond}
+use mathlib.Core.Bool.{Bool, true, false}
 use mathlib.Core.List.{List, [], ◌∷◌}
 use mathlib.Core.Option.{Option, none, some}
 use lib.ListN.{length, get_or, drop, drop_of_length-le}
 use lib.Seq.{drop-cons}
 use lib.Dec.{eqb}
 use borrow.Author.Tests.{ne_eqb}
+use Rattle.std.specs.Prelude.{Some, None}
+use Rattle.std.specs.Prelude as code
 use Rattle.rules.specs.Utf8.{Range, ◌to◌, inside, follow, well_formed_from}
 use Rattle.utf8.specs.declared.Due.{Due}
-use Rattle.utf8.specs.Due.{ranges, due_of, Tells, after}
+use Rattle.utf8.proofs.Table.{inside_true, inside_facts}
+use Rattle.utf8.specs.Due.{ranges, due_of, told, Tells, after}
 
 -- the rest, where what is due before it is known
 abbrev rest_from : Option (List Range) → List ℕ → Bool
@@ -35,15 +38,15 @@ by_after (r ∷ rs) b bs = go (inside r b)
 
 -- a byte that is as it must be, one that is not, and the text's end
 module _ (text : List ℕ) (d : Due) (i : ℕ) where
-  at_byte : i < length text → {e : Due} → Tells (after (due_of d) (get_or text i 0)) e → well_formed_from (due_of d) (drop i text) ≡ rest_from (cond e.ok (some (due_of e)) none) (drop (i + 1) text)
+  at_byte : i < length text → {e : code.Option Due} → Tells (after (due_of d) (get_or text i 0)) e → well_formed_from (due_of d) (drop i text) ≡ rest_from (told e) (drop (i + 1) text)
   at_byte l s =
       ap (well_formed_from (due_of d)) (drop-cons text i 0 l) ∙ by_after (due_of d) (get_or text i 0) (drop (suc i) text) ∙ rw (s.is, add-one) refl
 
-  pub goes_on : i < length text → {e : Due} → Tells (after (due_of d) (get_or text i 0)) e → e.ok ≡ true → well_formed_from (due_of d) (drop i text) ≡ well_formed_from (due_of e) (drop (i + 1) text)
-  goes_on l {e} s q = at_byte l s ∙ ap (λ (t : Bool). rest_from (cond t (some (due_of e)) none) (drop (i + 1) text)) q
+  pub goes_on : i < length text → {e : Due} → Tells (after (due_of d) (get_or text i 0)) (Some e) → well_formed_from (due_of d) (drop i text) ≡ well_formed_from (due_of e) (drop (i + 1) text)
+  goes_on l s = at_byte l s
 
-  pub stops : i < length text → {e : Due} → Tells (after (due_of d) (get_or text i 0)) e → e.ok ≡ false → well_formed_from (due_of d) (drop i text) ≡ false
-  stops l {e} s q = at_byte l s ∙ ap (λ (t : Bool). rest_from (cond t (some (due_of e)) none) (drop (i + 1) text)) q
+  pub stops : i < length text → Tells (after (due_of d) (get_or text i 0)) None → well_formed_from (due_of d) (drop i text) ≡ false
+  stops l s = at_byte l s
 
   pub ended : length text ≤ i → well_formed_from (due_of d) (drop i text) ≡ eqb d.left 0
   unfolding well_formed_from
@@ -59,14 +62,18 @@ unfolding after
 due_first zero least most b e = refl
 due_first (suc left) least most b e = absurd (omega arith)
 
-pub due_inside : (left least most b : ℕ) → 0 < left → inside (least to most) b ≡ true → after (ranges left least most) b ≡ some (ranges (left - 1) 0x80 0xBF)
+pub due_inside : (left least most b : ℕ) → 0 < left → least ≤ b → b ≤ most → after (ranges left least most) b ≡ some (ranges (left - 1) 0x80 0xBF)
 unfolding after
-due_inside zero least most b l e = absurd (omega arith)
-due_inside (suc left) least most b l e =
+due_inside zero least most b l h k = absurd (omega arith)
+due_inside (suc left) least most b l h k =
     let same : suc left - 1 ≡ left = omega arith in
-    rw same (ap (λ (t : Bool). elim t as (λ _. Option (List Range)) [ true ↦ some (ranges left 0x80 0xBF) | false ↦ none ]) e)
+    rw same (ap (λ (t : Bool). elim t as (λ _. Option (List Range)) [ true ↦ some (ranges left 0x80 0xBF) | false ↦ none ]) (inside_true (least to most) b h k))
 
-pub due_outside : (left least most b : ℕ) → 0 < left → inside (least to most) b ≡ false → after (ranges left least most) b ≡ none
+pub due_outside : (left least most b : ℕ) → 0 < left → (least ≤ b → b ≤ most → ⊥) → after (ranges left least most) b ≡ none
 unfolding after
-due_outside zero least most b l e = absurd (omega arith)
-due_outside (suc left) least most b l e = ap (λ (t : Bool). elim t as (λ _. Option (List Range)) [ true ↦ some (ranges left 0x80 0xBF) | false ↦ none ]) e
+due_outside zero least most b l n = absurd (omega arith)
+due_outside (suc left) least most b l n = go (inside (least to most) b) refl
+  where
+    go : (t : Bool) → inside (least to most) b ≡ t → (elim t as (λ _. Option (List Range)) [ true ↦ some (ranges left 0x80 0xBF) | false ↦ none ]) ≡ none
+    go true e = let h = inside_facts (least to most) b e in absurd (n h.0 h.1)
+    go false e = refl

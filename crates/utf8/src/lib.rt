@@ -7,49 +7,32 @@ ghost use Rattle.rules.specs.Utf8.{follow, well_formed};
 ghost use Rattle.utf8.specs.Due.{ranges, due_of, Tells, after};
 ghost use Rattle.utf8.specs.Ascii.{ascii_to, Begins};
 
-// What is due of a character: so many bytes, the next one from `least` to `most`, those behind it from 80 to BF. Where this is not ok, no
-// well-formed text goes on so.
+// What is due of a character: so many bytes, the next one from `least` to `most`, those behind it from 80 to BF. Where none is left, the
+// range is of no matter.
 #[derive(Clone, Copy)]
 pub struct Due {
-    pub ok: bool,
     pub left: usize,
     pub least: u8,
     pub most: u8,
 }
 
-// So many bytes, the next one in a range; where none is left, the range is of no matter.
-fn due_bytes(left: usize, least: u8, most: u8) -> Due
+// So many bytes, the next one in a range.
+fn due_bytes(left: usize, least: u8, most: u8) -> Option<Due>
     ensures { Tells (some (ranges left least most)) result }
 {
-    Due {
-        ok: true,
-        left,
-        least,
-        most,
-    }
+    Some(Due { left, least, most })
 }
 
-// No character has such a byte there.
-fn no_character() -> Due
-    ensures { Tells none result }
-{
-    Due {
-        ok: false,
-        left: 0,
-        least: 0,
-        most: 0,
-    }
-}
-
-// What must follow a character's first byte: table 3-7, by ascending bytes.
-fn begin(first: u8) -> Due
+// What must follow a character's first byte: table 3-7, by ascending bytes. Nothing, where no character begins so.
+// No `match` of its ranges: tried, it took a text of two-byte characters a sixth longer, and of ASCII a third.
+fn begin(first: u8) -> Option<Due>
     ensures { Tells (follow first) result }
 {
     if first < 0x80 {
         return due_bytes(0, 0x80, 0xBF);
     }
     if first < 0xC2 {
-        return no_character();
+        return None;
     }
     if first < 0xE0 {
         return due_bytes(1, 0x80, 0xBF);
@@ -75,23 +58,23 @@ fn begin(first: u8) -> Due
     if first < 0xF5 {
         return due_bytes(3, 0x80, 0x8F);
     }
-    no_character()
+    None
 }
 
-// What is due behind one byte more.
-fn next_due(d: Due, byte: u8) -> Due
+// What is due behind one byte more. Nothing, where no character has it there.
+fn next_due(d: Due, byte: u8) -> Option<Due>
     ensures { Tells (after (due_of d) byte) result }
 {
     if d.left == 0 {
         return begin(byte);
     }
-    if (d.least <= byte) & (byte <= d.most) {
+    if (d.least..=d.most).contains(&byte) {
         return due_bytes(d.left - 1, 0x80, 0xBF);
     }
-    no_character()
+    None
 }
 
-// Whether the first eight bytes are ASCII.
+// Whether the first eight bytes are ASCII: one test, with no early end as `all` would have after each byte.
 fn eight_ascii(text: &[u8]) -> bool
     requires { 8 ≤ length text.now }
     ensures { result ≡ ascii_to 8 text.now }
@@ -106,7 +89,8 @@ fn eight_ascii(text: &[u8]) -> bool
         & (text[7] < 0x80)
 }
 
-// Where the walk may begin: behind eights of ASCII at the start, which are most of most texts.
+// Where the walk may begin: behind eights of ASCII at the start, which are most of most texts. The answer is a place, so an iterator over
+// the eights would have to be counted beside.
 fn behind_ascii(text: &[u8]) -> usize
     ensures { Begins text.now result }
 {
@@ -126,18 +110,15 @@ pub fn well_formed(text: &[u8]) -> bool
     ensures { result ≡ well_formed text.now }
 {
     let mut d = Due {
-        ok: true,
         left: 0,
         least: 0x80,
         most: 0xBF,
     };
-    let mut i = behind_ascii(text);
-    while i < text.len() {
-        d = next_due(d, text[i]);
-        if !d.ok {
+    for byte in &text[behind_ascii(text)..] {
+        let Some(next) = next_due(d, *byte) else {
             return false;
-        }
-        i += 1;
+        };
+        d = next;
     }
     d.left == 0
 }

@@ -7,18 +7,18 @@ use Rattle.call_answer.specs.Calls.{call_of}
 use Rattle.call_answer.proofs.Splits.{fits}
 use Rattle.call_answer.proofs.answer_readable.Goals as goal
 
-pub finish-e-requires : goal.finish-e-requires
-finish-e-requires c =
+pub finish-requires : goal.finish-requires
+finish-requires c =
     let p = c.requires.1 in
     (search rules, λ y. fits c.args.call p.opened c.args.number.0 (is_accepted (c.pass-m.ensures p.schema p.opened) y))
 
-pub returns-then-e : goal.returns-then-e
-returns-then-e c = λ s o. let a = c.args in c.finish-e.ensures.answered c.if-e.true (call_of a.call a.number.0 s) _ (c.pass-m.ensures s o)
+pub returns-in-Some : goal.returns-in-Some
+returns-in-Some c = λ s o. let a = c.args in c.in-Some.ensures.answered (call_of a.call a.number.0 s) _ (c.pass-m.ensures s o)
 
 pub overflow_cast-w : goal.overflow_cast-w
 overflow_cast-w c =
     let p = c.requires.1 in
-    omega (arith, fits c.args.call p.opened c.args.number.0 (accepted_again (c.pass-m.ensures p.schema p.opened) c.finish-e.ensures c.if-e.false (c.pass-w.ensures p.schema p.opened)))
+    omega (arith, fits c.args.call p.opened c.args.number.0 (accepted_again (c.pass-m.ensures p.schema p.opened) c.in_default.ensures (c.pass-w.ensures p.schema p.opened)))
 
 pub returns : goal.returns
-returns c = λ s o. written_again (c.pass-m.ensures s o) c.finish-e.ensures c.if-e.false (c.pass-w.ensures s o) c.accept.result c.accept.ensures
+returns c = λ s o. written_again (c.pass-m.ensures s o) c.in_default.ensures (c.pass-w.ensures s o) c.accept.result c.accept.ensures

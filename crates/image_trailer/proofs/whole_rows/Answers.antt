@@ -4,4 +4,4 @@ use Rattle.image_trailer.proofs.whole_rows.Goals as goal
 
 pub returns : goal.returns
 unfolding whole_rows
-returns c = rw (← c.less-bytes.ensures)
+returns c = rw (← c.saturating_sub-bytes.ensures)

@@ -1,5 +1,4 @@
 -- `utf8::behind_ascii` meets its contract. Assumes nothing.
-use Prim.Native.Nat.{◌-◌}
 use native.Mathlib.Omega.{arith}
 use borrow.Author.Tests.{not-false}
 use Rattle.utf8.proofs.AsciiLaws.{eight_further}

@@ -1,5 +1,5 @@
 -- `lines::answer::put_words` meets its contract: what is left of the words decides. Assumes nothing.
-use Prim.Native.Nat.{◌-◌, ◌≤◌}
+use Prim.Native.Nat.{◌≤◌}
 use mathlib.Core.Path.{◌≡◌}
 use lib.ListN.{length}
 use Rattle.lines.proofs.Lines.{first_words, Left}
@@ -7,7 +7,4 @@ use Rattle.lines.proofs.answer.put_words.Given as goal
 
 abbrev pub invariant-loop-i : goal.invariant-loop-i
 invariant-loop-i l =
-    (l.i ≤ l.count) × (l.next ≤ length l.text) × (length l.text ≡ length l.initial.text) × Left (first_words l.output l.size) l.at l.initial.text l.i l.next l.text
-
-abbrev pub decreases-loop-i : goal.decreases-loop-i
-decreases-loop-i l = l.count - l.i
+    (l.next ≤ length l.text) × (length l.text ≡ length l.initial.text) × Left (first_words l.output l.size) l.at l.initial.text l.i l.next l.text
