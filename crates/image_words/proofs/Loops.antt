@@ -32,6 +32,9 @@ repeat_done nil cons r n i l = let e : n - i ≡ 0 = omega arith in rw e (given 
 pub repeat_all : {A B : Type 0} (nil : B) (cons : A → B → B) (r : Reader A) {ws : List ℕ} {at : ℕ} (n : ℕ) {d : Option ℕ} → Says (repeat nil cons (n - 0) r) ws at d → Says (repeat nil cons n r) ws at d
 repeat_all nil cons r n h = let z : n - 0 ≡ n = omega arith in rw z at h
 
+pub all_start : {A B : Type 0} (nil : B) (cons : A → B → B) (r : Reader A) {ws : List ℕ} {at : ℕ} (n : ℕ) → Left (repeat nil cons (n - 0) r) at (repeat nil cons n r) ws at
+all_start nil cons r n = record { so = λ d h. repeat_all _ _ r n h }
+
 -- one turn of a loop over such readings, its start and its end
 module _ {A B C : Type 0} (nil : B) (cons : A → B → B) (r : Reader A) {whole : Reader C} {ws : List ℕ} {at next : ℕ} (n i : ℕ) (inv : Left (repeat nil cons (n - i) r) next whole ws at) where
   pub turn : i < n → {m : ℕ} → Says r ws next (Some m) → Left (repeat nil cons (n - (i + 1)) r) m whole ws at
@@ -53,7 +56,7 @@ module _ {A : Type 0} (r : Reader A) (most : ℕ) {ws : List ℕ} {at : ℕ} whe
   unfolding many
   many_stop s = stop _ s
 
-pub ruleset turns = (many_start, many_stop, turn, turn_stop, turn_done)
+pub ruleset turns = (all_start, many_start, many_stop, turn, turn_stop, turn_done)
 
 under_o : {A B C : Type 0} (ws : List ℕ) (o : Maybe (A × Rest)) (f : A → Reader B) (g : A → Reader C) (d : Option ℕ)
     → ((a : A) (p : Rest) → Agrees ws (f a p) d → Agrees ws (g a p) d) → Agrees ws (bound o f) d → Agrees ws (bound o g) d

@@ -218,4 +218,7 @@ none_o ws (some p) e = absurd e
 pub nothing : {A : Type 0} {r : Reader A} {ws : List ℕ} {at : ℕ} → Says r ws at None → r (rest_at ws at) ≡ none
 nothing {A} {r} {ws} {at} s = none_o ws (r (rest_at ws at)) s.is
 
-pub ruleset steps = (then, stop, last, given, failed, rule_then, rule_stop, within_then, within_under, within_over, word_then, below_then)
+-- what most of the checks take; and a rule besides
+pub ruleset steps = (then, stop, last, given, failed, below_then)
+
+pub ruleset rule_steps = (then, stop, given, word_then, rule_then, rule_stop, within_then, within_under, within_over)

@@ -7,13 +7,13 @@ ghost use Rattle.image_words.specs.Verdict.{section_words, Says};
 use rules::bounds::{BITS_NAMES, SUB_BYTE_BITS};
 
 // A sub-byte type behind its code: signed 0 or 1, bits 1 to 64.
-#[tactic(auto, using(image_words::proofs::Says::steps), unfolding(rules::specs::ReadTypes::sub_byte))]
+#[tactic(auto, using(image_words::proofs::Says::rule_steps), unfolding(rules::specs::ReadTypes::sub_byte))]
 pub fn check_sub(pool: &[u8], at: usize) -> Option<usize>
     ensures { Says sub_byte (section_words pool.now) at result }
 {
-    let n = image_words::check_below(pool, at, 2)?;
-    let next = image_words::check_word(pool, n)?;
-    match image_words::section_word(pool, n) {
+    let bits = image_words::check_below(pool, at, 2)?;
+    let next = image_words::check_word(pool, bits)?;
+    match image_words::section_word(pool, bits) {
         1..=SUB_BYTE_BITS => Some(next),
         _ => None,
     }
@@ -24,8 +24,8 @@ pub fn check_sub(pool: &[u8], at: usize) -> Option<usize>
 pub fn check_wide(pool: &[u8], at: usize) -> Option<usize>
     ensures { Says wide (section_words pool.now) at result }
 {
-    let low = image_words::check_word(pool, at)?;
-    image_words::check_word(pool, low)
+    let high = image_words::check_word(pool, at)?;
+    image_words::check_word(pool, high)
 }
 
 // A count, at most `most`, and so many names.
