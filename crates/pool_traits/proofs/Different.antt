@@ -16,11 +16,6 @@ use Rattle.rules.specs.Words.{member, all_different}
 clash : {b : Bool} → b ≡ true → b ≡ false → ⊥
 clash e f = let z : ◌≡◌ {A = ℕ} 0 1 = cc in omega arith
 
--- nothing is in the empty list
-pub member_none : (x : ℕ) → member x [] ≡ false
-unfolding member
-member_none x = refl
-
 pub different_none : all_different [] ≡ true
 unfolding all_different
 different_none = refl
