@@ -1,22 +1,15 @@
-// Words of a section of the image, which is a slice of it, each found or refused: what every reading of the image is made of.
+// Words of a section of the image, which is a slice of it: what every reading of the image is made of. A check gives the place behind what it finds, or None.
 #![tactic(auto)]
 
 ghost use Rattle.std.specs.Prelude.{◌≡◌, suc, ◌+◌, ◌-◌, ◌<◌, length, get_or};
 ghost use Rattle.rules.specs.Reader.{word, below};
 ghost use Rattle.image_words.specs.Verdict.{section_words, Says};
 
-// Whether something readable stands at a place, and the place behind it; 0 where nothing does.
-#[derive(Clone, Copy)]
-pub struct Checked {
-    pub ok: bool,
-    pub next: usize,
-}
-
 // a - b, or 0
 pub fn less(a: usize, b: usize) -> usize
     ensures { result ≡ a - b }
 {
-    if a < b { 0 } else { a - b }
+    a.saturating_sub(b)
 }
 
 // How many words a section has.
@@ -44,42 +37,39 @@ pub fn after(section: &[u8], at: usize) -> usize
 }
 
 // Any word.
-pub fn check_word(section: &[u8], at: usize) -> Checked
+#[tactic(auto, using(crate::proofs::Says::word_in, crate::proofs::Says::word_out))]
+pub fn check_word(section: &[u8], at: usize) -> Option<usize>
     ensures { Says word (section_words section.now) at result }
 {
-    if count(section) <= at {
-        return Checked { ok: false, next: 0 };
-    }
-    Checked {
-        ok: true,
-        next: at + 1,
+    if at < count(section) {
+        Some(at + 1)
+    } else {
+        None
     }
 }
 
 // A word under a limit.
-pub fn check_below(section: &[u8], at: usize, limit: u32) -> Checked
+#[tactic(auto, using(crate::proofs::Says::below_steps))]
+pub fn check_below(section: &[u8], at: usize, limit: u32) -> Option<usize>
     ensures { Says (below limit) (section_words section.now) at result }
 {
-    let a = check_word(section, at);
-    if !a.ok {
-        return a;
-    }
+    let next = check_word(section, at)?;
     if section_word(section, at) < limit {
-        return a;
+        Some(next)
+    } else {
+        None
     }
-    Checked { ok: false, next: 0 }
 }
 
 // A count, at most `most`.
-pub fn check_count(section: &[u8], at: usize, most: u32) -> Checked
+#[tactic(auto, using(crate::proofs::Says::below_steps))]
+pub fn check_count(section: &[u8], at: usize, most: u32) -> Option<usize>
     ensures { Says (below (suc most)) (section_words section.now) at result }
 {
-    let a = check_word(section, at);
-    if !a.ok {
-        return a;
-    }
+    let next = check_word(section, at)?;
     if section_word(section, at) <= most {
-        return a;
+        Some(next)
+    } else {
+        None
     }
-    Checked { ok: false, next: 0 }
 }

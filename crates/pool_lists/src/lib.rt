@@ -6,8 +6,6 @@ ghost use Rattle.rules.specs.ReadTypes.{param};
 ghost use Rattle.image_words.specs.Verdict.{section_words, Says};
 ghost use Rattle.pool_lists.specs.Items.{typed, item_reader};
 
-use image_words::Checked;
-
 // How a type stands there.
 #[derive(Clone, Copy)]
 pub enum Form {
@@ -23,22 +21,19 @@ pub enum Item {
 }
 
 // A name and its type.
-fn check_named(form: Form, pool: &[u8], at: usize, names: u32) -> Checked
+#[tactic(auto, using(image_words::proofs::Says::steps), unfolding(rules::specs::ReadTypes::param))]
+fn check_named(form: Form, pool: &[u8], at: usize, names: u32) -> Option<usize>
     ensures { Says (param names (typed form names)) (section_words pool.now) at result }
 {
-    let a = image_words::check_below(pool, at, names);
-    if !a.ok {
-        return a;
-    }
-    let n = a.next;
+    let ty = image_words::check_below(pool, at, names)?;
     match form {
-        Form::Resolved => pool_types::resolved::check_type(pool, n, names),
-        Form::Expression => pool_type_exprs::check_type_expr(pool, n, names),
+        Form::Resolved => pool_types::resolved::check_type(pool, ty, names),
+        Form::Expression => pool_type_exprs::check_type_expr(pool, ty, names),
     }
 }
 
 // One item.
-fn check_item(item: Item, pool: &[u8], at: usize, names: u32) -> Checked
+fn check_item(item: Item, pool: &[u8], at: usize, names: u32) -> Option<usize>
     ensures { Says (item_reader item names) (section_words pool.now) at result }
 {
     match item {
@@ -48,23 +43,13 @@ fn check_item(item: Item, pool: &[u8], at: usize, names: u32) -> Checked
 }
 
 // A count, at most `most`, and so many items: type arguments, fields, parameters.
-pub fn check_items(item: Item, pool: &[u8], at: usize, names: u32, most: u32) -> Checked
+#[tactic(auto, using(image_words::proofs::Loops::turns))]
+pub fn check_items(item: Item, pool: &[u8], at: usize, names: u32, most: u32) -> Option<usize>
     ensures { Says (many most (item_reader item names)) (section_words pool.now) at result }
 {
-    let n = image_words::check_count(pool, at, most);
-    if !n.ok {
-        return n;
+    let mut next = image_words::check_count(pool, at, most)?;
+    for _ in 0..image_words::section_word(pool, at) {
+        next = check_item(item, pool, next, names)?;
     }
-    let count = image_words::section_word(pool, at);
-    let mut i = 0;
-    let mut next = n.next;
-    while i < count {
-        let a = check_item(item, pool, next, names);
-        if !a.ok {
-            return a;
-        }
-        next = a.next;
-        i += 1;
-    }
-    Checked { ok: true, next }
+    Some(next)
 }

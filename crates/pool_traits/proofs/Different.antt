@@ -1,23 +1,20 @@
 -- Numbers all different: one more at the end, and a trait's functions by their names.
-use Prim.Native.Nat.{ℕ, suc, ◌+◌, ◌<◌}
+use Prim.Native.Nat.{ℕ, ◌+◌, ◌<◌}
 use mathlib.Core.Path.{◌≡◌, refl, sym, ap, ◌∙◌}
 use mathlib.Core.Bool.{Bool, true, false}
 use mathlib.Core.List.{List, [], ◌∷◌, ◌++◌}
 use native.Mathlib.Omega.{arith}
 use native.Mathlib.Numerals.{add-one}
-use lib.ListN.{length, get_or, take, drop, set}
-use lib.Seq.{split_at, take-suc, take-suc-set}
+use lib.ListN.{length, take, set}
+use lib.Seq.{take-suc-set}
 use lib.Dec.{eqb}
 use borrow.Author.Tests.{eqb-true, eqb-false, eq-eqb, ne_eqb}
+use Rattle.std.specs.Prelude.{◌||◌}
+use Rattle.std.specs.List.{list_any}
 use Rattle.rules.specs.Words.{member, all_different}
 
 clash : {b : Bool} → b ≡ true → b ≡ false → ⊥
 clash e f = let z : ◌≡◌ {A = ℕ} 0 1 = cc in omega arith
-
--- nothing is in the empty list
-pub member_none : (x : ℕ) → member x [] ≡ false
-unfolding member
-member_none x = refl
 
 pub different_none : all_different [] ≡ true
 unfolding all_different
@@ -89,13 +86,13 @@ different_more (z ∷ xs) x h k =
     (λ m. different_tail z (xs ++ (x ∷ [])) (member_more z xs x m (λ e. n (sym e)))
     ∙ different_more xs x (sym (different_tail z xs m) ∙ h) (sym (member_tail x z xs n) ∙ k)))
 
--- a list searched from its start
-pub member_at : (x : ℕ) (xs : List ℕ) (i : ℕ) → i < length xs → x ≡ get_or xs i 0 → member x xs ≡ true
-member_at x xs i l e =
-    ap (member x) (split_at xs i 0 l) ∙ ap (λ (k : ℕ). member x (take i xs ++ (k ∷ drop (suc i) xs))) (sym e) ∙ member_middle x (take i xs) (drop (suc i) xs)
-
-pub member_step : (x : ℕ) (xs : List ℕ) (i : ℕ) → i < length xs → (x ≡ get_or xs i 0 → ⊥) → member x (take i xs) ≡ false → member x (take (i + 1) xs) ≡ false
-member_step x xs i l n h = ap (λ (k : ℕ). member x (take k xs)) (add-one i) ∙ ap (member x) (take-suc xs i 0 l) ∙ member_more x (take i xs) (get_or xs i 0) h n
+-- a list searched from its start, as code does it
+pub member_any : (x : ℕ) (xs : List ℕ) → list_any (λ y. eqb y x) xs ≡ member x xs
+unfolding member
+member_any x [] = refl
+member_any x (y ∷ ys) =
+    by_head x y (λ e. ap (λ b. b || list_any (λ y. eqb y x) ys) (eq-eqb y x (sym e)) ∙ sym (member_head x y ys e))
+    (λ n. ap (λ b. b || list_any (λ y. eqb y x) ys) (ne_eqb y x (λ q. n (sym q))) ∙ member_any x ys ∙ sym (member_tail x y ys n))
 
 -- one number more in a table
 pub take_more : (xs : List ℕ) (i x : ℕ) → i < length xs → take (i + 1) (set xs i x) ≡ take i xs ++ (x ∷ [])

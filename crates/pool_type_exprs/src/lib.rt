@@ -1,84 +1,60 @@
-// Whether a type expression stands in the pool, as the rules read it.
+// Whether a type expression stands in the pool, as the rules read it: the place behind it, or None.
 #![tactic(auto)]
 
 ghost use Rattle.rules.specs.Reader.{fail};
 ghost use Rattle.rules.specs.ReadTypes.{type_expr_node, type_expr_tree, type_expr};
 ghost use Rattle.rules.specs.declared.kinds.TypeKind.TheVariants.{Qualified};
-ghost use Rattle.image_words.specs.Verdict.{section_words, Says, After};
+ghost use Rattle.image_words.specs.Verdict.{section_words, Says};
 
-use image_words::Checked;
+use pool_types::parts;
 use rules::bounds::{TYPE_NESTING, TYPE_WORDS};
 use rules::kinds::TypeKind;
 
-// A type expression, at most `depth` deep, behind what h found.
-#[cycle(check_expr_part_check_type_expr_tree)]
-pub fn check_expr_part(pool: &[u8], h: Checked, names: u32, depth: u32) -> Checked
-    ensures { After (type_expr_tree names depth) (section_words pool.now) h result }
-{
-    if !h.ok {
-        return h;
-    }
-    let n = h.next;
-    check_type_expr_tree(pool, n, names, depth)
-}
-
 // A namespace and a name.
-pub fn check_qualified(pool: &[u8], at: usize, names: u32) -> Checked
+#[tactic(auto, using(image_words::proofs::Says::steps), unfolding(rules::specs::ReadTypes::type_expr_node))]
+pub fn check_qualified(pool: &[u8], at: usize, names: u32) -> Option<usize>
     ensures { Says (type_expr_node names fail Qualified 49) (section_words pool.now) at result }
 {
-    let h = image_words::check_below(pool, at, names);
-    if !h.ok {
-        return h;
-    }
-    let n = h.next;
-    image_words::check_below(pool, n, names)
+    let name = image_words::check_below(pool, at, names)?;
+    image_words::check_below(pool, name, names)
 }
 
 // A type expression, at most `depth` deep.
-#[cycle(check_expr_part_check_type_expr_tree)]
-pub fn check_type_expr_tree(pool: &[u8], at: usize, names: u32, depth: u32) -> Checked
+#[tactic(auto, using(image_words::proofs::Trees::type_expr_steps, image_words::proofs::Says::steps), unfolding(rules::specs::ReadTypes::type_expr_node))]
+pub fn check_type_expr_tree(pool: &[u8], at: usize, names: u32, depth: u32) -> Option<usize>
     ensures { Says (type_expr_tree names depth) (section_words pool.now) at result }
 {
-    if depth == 0 {
-        return Checked { ok: false, next: 0 };
-    }
-    let a = image_words::check_word(pool, at);
-    if !a.ok {
-        return a;
-    }
-    let n = a.next;
-    let d = depth - 1;
-    let k = codes::type_kind(image_words::section_word(pool, at));
-    match k {
-        TypeKind::Plain => a,
-        TypeKind::Sub => pool_types::parts::check_sub(pool, n),
-        TypeKind::Bits => pool_types::parts::check_bits(pool, n, names),
+    let d = depth.checked_sub(1)?;
+    let n = image_words::check_word(pool, at)?;
+    match codes::type_kind(image_words::section_word(pool, at)) {
+        TypeKind::Plain => Some(n),
+        TypeKind::Sub => parts::check_sub(pool, n),
+        TypeKind::Bits => parts::check_bits(pool, n, names),
         TypeKind::Named => image_words::check_below(pool, n, names),
         TypeKind::Qualified => check_qualified(pool, n, names),
-        TypeKind::Generic => check_expr_part(
-            pool,
-            image_words::check_below(pool, n, names),
-            names,
-            d,
-        ),
+        TypeKind::Generic => {
+            let argument = image_words::check_below(pool, n, names)?;
+            check_type_expr_tree(pool, argument, names, d)
+        }
         TypeKind::One => check_type_expr_tree(pool, n, names, d),
-        TypeKind::Fixed => check_expr_part(pool, pool_types::parts::check_wide(pool, n), names, d),
-        TypeKind::Two => check_expr_part(pool, check_type_expr_tree(pool, n, names, d), names, d),
-        TypeKind::Unknown => Checked { ok: false, next: 0 },
+        TypeKind::Fixed => check_type_expr_tree(pool, parts::check_wide(pool, n)?, names, d),
+        TypeKind::Two => {
+            let second = check_type_expr_tree(pool, n, names, d)?;
+            check_type_expr_tree(pool, second, names, d)
+        }
+        TypeKind::Unknown => None,
     }
 }
 
 // A type expression of at most 64 words.
-pub fn check_type_expr(pool: &[u8], at: usize, names: u32) -> Checked
+#[tactic(auto, using(image_words::proofs::Says::sized_steps), unfolding(rules::specs::ReadTypes::type_expr))]
+pub fn check_type_expr(pool: &[u8], at: usize, names: u32) -> Option<usize>
     ensures { Says (type_expr names) (section_words pool.now) at result }
 {
-    let c = check_type_expr_tree(pool, at, names, TYPE_NESTING);
-    if !c.ok {
-        return c;
+    let next = check_type_expr_tree(pool, at, names, TYPE_NESTING)?;
+    if next.saturating_sub(at) <= TYPE_WORDS {
+        Some(next)
+    } else {
+        None
     }
-    let n = c.next;
-    if image_words::less(n, at) <= TYPE_WORDS {
-        return c;
-    }
-    Checked { ok: false, next: 0 }
 }

@@ -1,4 +1,4 @@
-// Whether a resolved type stands in the pool, as the rules read it.
+// Whether a resolved type stands in the pool, as the rules read it: the place behind it, or None.
 #![tactic(auto)]
 
 pub mod parts;

@@ -4,65 +4,45 @@ ghost use Rattle.rules.specs.Reader.{many};
 ghost use Rattle.rules.specs.ReadTypes.{sub_byte, wide, name, bits_inline};
 ghost use Rattle.image_words.specs.Verdict.{section_words, Says};
 
-use image_words::Checked;
 use rules::bounds::{BITS_NAMES, SUB_BYTE_BITS};
 
 // A sub-byte type behind its code: signed 0 or 1, bits 1 to 64.
-pub fn check_sub(pool: &[u8], at: usize) -> Checked
+#[tactic(auto, using(image_words::proofs::Says::rule_steps), unfolding(rules::specs::ReadTypes::sub_byte))]
+pub fn check_sub(pool: &[u8], at: usize) -> Option<usize>
     ensures { Says sub_byte (section_words pool.now) at result }
 {
-    let s = image_words::check_below(pool, at, 2);
-    if !s.ok {
-        return s;
+    let bits = image_words::check_below(pool, at, 2)?;
+    let next = image_words::check_word(pool, bits)?;
+    match image_words::section_word(pool, bits) {
+        1..=SUB_BYTE_BITS => Some(next),
+        _ => None,
     }
-    let m = s.next;
-    let n = image_words::check_word(pool, m);
-    if !n.ok {
-        return n;
-    }
-    let bits = image_words::section_word(pool, m);
-    if (1 <= bits) & (bits <= SUB_BYTE_BITS) {
-        return n;
-    }
-    Checked { ok: false, next: 0 }
 }
 
 // 64 bits in two words.
-pub fn check_wide(pool: &[u8], at: usize) -> Checked
+#[tactic(auto, using(image_words::proofs::Says::steps), unfolding(rules::specs::ReadTypes::wide))]
+pub fn check_wide(pool: &[u8], at: usize) -> Option<usize>
     ensures { Says wide (section_words pool.now) at result }
 {
-    let low = image_words::check_word(pool, at);
-    if !low.ok {
-        return low;
-    }
-    let m = low.next;
-    image_words::check_word(pool, m)
+    let high = image_words::check_word(pool, at)?;
+    image_words::check_word(pool, high)
 }
 
 // A count, at most `most`, and so many names.
-pub fn check_names(pool: &[u8], at: usize, names: u32, most: u32) -> Checked
+#[tactic(auto, using(image_words::proofs::Loops::turns))]
+pub fn check_names(pool: &[u8], at: usize, names: u32, most: u32) -> Option<usize>
     ensures { Says (many most (name names)) (section_words pool.now) at result }
 {
-    let n = image_words::check_count(pool, at, most);
-    if !n.ok {
-        return n;
+    let mut next = image_words::check_count(pool, at, most)?;
+    for _ in 0..image_words::section_word(pool, at) {
+        next = image_words::check_below(pool, next, names)?;
     }
-    let count = image_words::section_word(pool, at);
-    let mut i = 0;
-    let mut next = n.next;
-    while i < count {
-        let a = image_words::check_below(pool, next, names);
-        if !a.ok {
-            return a;
-        }
-        next = a.next;
-        i += 1;
-    }
-    Checked { ok: true, next }
+    Some(next)
 }
 
 // An inline bits type behind its code: at most 62 names.
-pub fn check_bits(pool: &[u8], at: usize, names: u32) -> Checked
+#[tactic(auto, using(image_words::proofs::Says::steps), unfolding(rules::specs::ReadTypes::bits_inline))]
+pub fn check_bits(pool: &[u8], at: usize, names: u32) -> Option<usize>
     ensures { Says (bits_inline names) (section_words pool.now) at result }
 {
     check_names(pool, at, names, BITS_NAMES)

@@ -1,79 +1,56 @@
 // Resolved types in the pool.
 ghost use Rattle.rules.specs.Reader.{maybe};
 ghost use Rattle.rules.specs.ReadTypes.{type_tree, resolved_type};
-ghost use Rattle.image_words.specs.Verdict.{section_words, Says, After};
+ghost use Rattle.image_words.specs.Verdict.{section_words, Says};
 
-use image_words::Checked;
+use crate::parts;
 use rules::bounds::{TYPE_NESTING, TYPE_WORDS};
 use rules::kinds::TypeKind;
 
-// A resolved type, at most `depth` deep, behind what h found.
-#[cycle(check_part_check_tree)]
-pub fn check_part(pool: &[u8], h: Checked, names: u32, depth: u32) -> Checked
-    ensures { After (type_tree names depth) (section_words pool.now) h result }
-{
-    if !h.ok {
-        return h;
-    }
-    let n = h.next;
-    check_tree(pool, n, names, depth)
-}
-
 // A resolved type, at most `depth` deep.
-#[cycle(check_part_check_tree)]
-pub fn check_tree(pool: &[u8], at: usize, names: u32, depth: u32) -> Checked
+#[tactic(auto, using(image_words::proofs::Trees::type_steps, image_words::proofs::Says::steps), unfolding(rules::specs::ReadTypes::type_node))]
+pub fn check_tree(pool: &[u8], at: usize, names: u32, depth: u32) -> Option<usize>
     ensures { Says (type_tree names depth) (section_words pool.now) at result }
 {
-    if depth == 0 {
-        return Checked { ok: false, next: 0 };
-    }
-    let a = image_words::check_word(pool, at);
-    if !a.ok {
-        return a;
-    }
-    let n = a.next;
-    let d = depth - 1;
-    let k = codes::type_kind(image_words::section_word(pool, at));
-    match k {
-        TypeKind::Plain => a,
-        TypeKind::Sub => crate::parts::check_sub(pool, n),
-        TypeKind::Bits => crate::parts::check_bits(pool, n, names),
+    let d = depth.checked_sub(1)?;
+    let n = image_words::check_word(pool, at)?;
+    match codes::type_kind(image_words::section_word(pool, at)) {
+        TypeKind::Plain => Some(n),
+        TypeKind::Sub => parts::check_sub(pool, n),
+        TypeKind::Bits => parts::check_bits(pool, n, names),
         TypeKind::Named => image_words::check_word(pool, n),
-        TypeKind::Qualified => Checked { ok: false, next: 0 },
-        TypeKind::Generic => Checked { ok: false, next: 0 },
         TypeKind::One => check_tree(pool, n, names, d),
-        TypeKind::Fixed => check_part(pool, crate::parts::check_wide(pool, n), names, d),
-        TypeKind::Two => check_part(pool, check_tree(pool, n, names, d), names, d),
-        TypeKind::Unknown => Checked { ok: false, next: 0 },
+        TypeKind::Fixed => check_tree(pool, parts::check_wide(pool, n)?, names, d),
+        TypeKind::Two => {
+            let second = check_tree(pool, n, names, d)?;
+            check_tree(pool, second, names, d)
+        }
+        TypeKind::Qualified | TypeKind::Generic | TypeKind::Unknown => None,
     }
 }
 
 // A resolved type of at most 64 words.
-pub fn check_type(pool: &[u8], at: usize, names: u32) -> Checked
+#[tactic(auto, using(image_words::proofs::Says::sized_steps), unfolding(rules::specs::ReadTypes::resolved_type))]
+pub fn check_type(pool: &[u8], at: usize, names: u32) -> Option<usize>
     ensures { Says (resolved_type names) (section_words pool.now) at result }
 {
-    let c = check_tree(pool, at, names, TYPE_NESTING);
-    if !c.ok {
-        return c;
+    let next = check_tree(pool, at, names, TYPE_NESTING)?;
+    if next.saturating_sub(at) <= TYPE_WORDS {
+        Some(next)
+    } else {
+        None
     }
-    let n = c.next;
-    if image_words::less(n, at) <= TYPE_WORDS {
-        return c;
-    }
-    Checked { ok: false, next: 0 }
 }
 
 // 0, or 1 and a resolved type.
-pub fn check_maybe_type(pool: &[u8], at: usize, names: u32) -> Checked
+#[tactic(auto, using(image_words::proofs::Says::maybe_steps))]
+pub fn check_maybe_type(pool: &[u8], at: usize, names: u32) -> Option<usize>
     ensures { Says (maybe (resolved_type names)) (section_words pool.now) at result }
 {
-    let f = image_words::check_below(pool, at, 2);
-    if !f.ok {
-        return f;
-    }
+    let next = image_words::check_below(pool, at, 2)?;
     if image_words::section_word(pool, at) == 0 {
-        return f;
+        Some(next)
+    } else {
+        check_type(pool, next, names)
     }
-    let n = f.next;
-    check_type(pool, n, names)
 }

@@ -1,18 +1,18 @@
--- `pool_traits::check_trait` meets its contract: the answers follow the reader's steps.
-use borrow.Author.Tests.{not-true, not-false}
+-- `pool_traits::check_trait` meets its contract: its reader is opened here, since no attribute can name it (`trait` is a word of Rust).
+use Rattle.std.proofs.Common.{arith}
 use Rattle.rules.specs.ReadDefinitions.{trait}
-use Rattle.image_words.proofs.Says.{then, stop}
+use Rattle.image_words.proofs.Says.{then, steps}
 use Rattle.image_words.proofs.Loops.{made}
 use Rattle.pool_traits.proofs.check_trait.Goals as goal
 
-pub returns-then-not-a : goal.returns-then-not-a
+pub returns-in_err-type_params : goal.returns-in_err-type_params
 unfolding trait
-returns-then-not-a c = stop _ c.check_below-a.ensures (not-true _ c.if-not-a.true)
+returns-in_err-type_params c = grind (arith, steps)
 
-pub returns-then-not-p : goal.returns-then-not-p
+pub returns-in_err-functions : goal.returns-in_err-functions
 unfolding trait
-returns-then-not-p c = then c.check_below-a.ensures (not-false _ c.if-not-a.false) (λ n. stop _ c.check_names-p.ensures (not-true _ c.if-not-p.true))
+returns-in_err-functions c = grind (arith, steps)
 
 pub returns : goal.returns
 unfolding trait
-returns c = then c.check_below-a.ensures (not-false _ c.if-not-a.false) (λ n. then c.check_names-p.ensures (not-false _ c.if-not-p.false) (λ p. made _ _ _ c.check_trait_functions.ensures))
+returns c = then c.in_ok-type_params.ensures (λ _. then c.in_ok-functions.ensures (λ _. made _ _ _ c.check_trait_functions.ensures))

@@ -11,7 +11,4 @@ use Rattle.pool_traits.proofs.TraitLoop.{rest}
 use Rattle.pool_traits.proofs.check_trait_functions.Given as goal
 
 abbrev pub invariant-loop-i : goal.invariant-loop-i
-invariant-loop-i l = Left (rest l.names (l.count - l.i) (take l.i l.seen)) l.next (different_functions l.names) (section_words l.pool) l.at × (all_different (take l.i l.seen) ≡ true) × (l.count ≤ 64) × (length l.seen ≡ 64)
-
-abbrev pub decreases-loop-i : goal.decreases-loop-i
-decreases-loop-i l = l.count - l.i
+invariant-loop-i l = Left (rest l.names (l.i-end - l.i) (take l.i l.seen)) l.next (different_functions l.names) (section_words l.pool) l.at × (all_different (take l.i l.seen) ≡ true) × (l.i-end ≤ 64) × (length l.seen ≡ 64)

@@ -6,8 +6,5 @@ use Rattle.image_words.proofs.Verdict.{Left}
 use Rattle.pool_bodies.proofs.Blocks.{rest}
 use Rattle.pool_bodies.proofs.bodies.check_block.Given as goal
 
-abbrev pub invariant-loop-i : goal.invariant-loop-i
-invariant-loop-i l = Left (rest l.names l.strings (l.count - l.i) l.lets) l.next (block l.names l.strings) (section_words l.pool) l.at × (l.lets ≤ l.i)
-
-abbrev pub decreases-loop-i : goal.decreases-loop-i
-decreases-loop-i l = l.count - l.i
+abbrev pub invariant-loop : goal.invariant-loop
+invariant-loop l = Left (rest l.names l.strings (l.end - l.counter) l.lets) l.next (block l.names l.strings) (section_words l.pool) l.at × (l.lets ≤ l.counter)

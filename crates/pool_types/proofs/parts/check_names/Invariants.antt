@@ -6,8 +6,5 @@ use Rattle.image_words.specs.Verdict.{section_words}
 use Rattle.image_words.proofs.Verdict.{Left}
 use Rattle.pool_types.proofs.parts.check_names.Given as goal
 
-abbrev pub invariant-loop-i : goal.invariant-loop-i
-invariant-loop-i l = Left (times (l.count - l.i) (name l.names)) l.next (many l.most (name l.names)) (section_words l.pool) l.at
-
-abbrev pub decreases-loop-i : goal.decreases-loop-i
-decreases-loop-i l = l.count - l.i
+abbrev pub invariant-loop : goal.invariant-loop
+invariant-loop l = Left (times (l.end - l.counter) (name l.names)) l.next (many l.most (name l.names)) (section_words l.pool) l.at
