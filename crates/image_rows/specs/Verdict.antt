@@ -1,8 +1,7 @@
 -- What the checks of rows say, each of its reader, from its row's place on.
-use Rattle.std.specs.Prelude.{ℕ, ◌+◌, ◌*◌, Bool, cond, List}
+use Rattle.std.specs.Prelude.{ℕ, ◌+◌, ◌*◌, Bool, List, true, false, Option, Some, None}
 use Rattle.rules.specs.Syntax.{Name, TypeDef}
 use Rattle.rules.specs.Reader.{Reader, times}
-use Rattle.image_words.specs.declared.Checked.{Checked}
 use Rattle.image_words.specs.Verdict.{section_words, Says}
 use Rattle.image_layout.specs.declared.Table.{Table}
 use Rattle.image_layout.specs.declared.Layout.{Layout}
@@ -10,8 +9,9 @@ use Rattle.image_layout.specs.Readers.{name_row_of, string_row_of, definition_ro
 use Rattle.image_rows.specs.declared.Rows.{Rows}
 
 -- an answer where the place behind what is read is known
-abbrev pub verdict : Bool → ℕ → Checked
-verdict ok next = record { ok = ok; next = cond ok next 0 }
+abbrev pub verdict : Bool → ℕ → Option ℕ
+verdict true next = Some next
+verdict false next = None
 
 -- by which rows are meant: what a row gives, where they stand, and the reader of one
 abbrev pub Thing : Rows → Type 0

@@ -4,6 +4,8 @@ ghost use Rattle.image_layout.specs.Rows.{Cut};
 ghost use Rattle.image_rows.specs.Verdict.{DefinitionSays};
 
 use image_layout::Layout;
+use pool_definitions::implementations::check_implementation;
+use pool_definitions::messages;
 use rules::ids::TypeId;
 use rules::kinds::DefinitionKind;
 
@@ -13,32 +15,17 @@ pub fn check_definition_row(l: &Layout, i: TypeId) -> bool
     ensures { DefinitionSays l.now i.0 result }
 {
     let row = image_layout::definition_row(l, i);
-    let kind = row.kind;
     let start = row.start as usize;
-    let pool = l.pool;
     let names = l.names.rows;
-    match kind {
+    match row.kind {
         DefinitionKind::Other => true,
-        DefinitionKind::Message => {
-            let c = pool_definitions::messages::check_message(pool, start, names);
-            c.ok
-        }
+        DefinitionKind::Message => messages::check_message(l.pool, start, names).is_some(),
         DefinitionKind::GenericAlias => {
-            let c = pool_definitions::messages::check_generic_alias(pool, start, names);
-            c.ok
+            messages::check_generic_alias(l.pool, start, names).is_some()
         }
-        DefinitionKind::Trait => {
-            let c = pool_traits::check_trait(pool, start, names);
-            c.ok
-        }
+        DefinitionKind::Trait => pool_traits::check_trait(l.pool, start, names).is_some(),
         DefinitionKind::Implementation => {
-            let c = pool_definitions::implementations::check_implementation(
-                pool,
-                start,
-                names,
-                l.strings.rows,
-            );
-            c.ok
+            check_implementation(l.pool, start, names, l.strings.rows).is_some()
         }
         DefinitionKind::Unknown => false,
     }

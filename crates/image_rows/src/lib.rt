@@ -47,13 +47,10 @@ pub fn check_rows(which: Rows, l: &Layout) -> bool
     requires { Cut l.now }
     ensures { RowsSay which l.now result }
 {
-    let n = count(which, l);
-    let mut i = 0;
-    while i < n {
+    for i in 0..count(which, l) {
         if !check_row(which, l, i) {
             return false;
         }
-        i += 1;
     }
     true
 }

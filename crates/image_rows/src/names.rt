@@ -33,7 +33,5 @@ pub fn check_name_row(l: &Layout, i: NameId) -> bool
     if row.alias == NOWHERE {
         return true;
     }
-    let pool = l.pool;
-    let a = pool_types::resolved::check_type(pool, row.alias as usize, l.names.rows);
-    a.ok
+    pool_types::resolved::check_type(l.pool, row.alias as usize, l.names.rows).is_some()
 }

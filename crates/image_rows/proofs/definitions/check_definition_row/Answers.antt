@@ -7,23 +7,23 @@ use Rattle.image_rows.proofs.definitions.check_definition_row.Goals as goal
 
 pub returns-in-Other : goal.returns-in-Other
 unfolding definition_node
-returns-in-Other c = definition_then c.requires.0 c.requires.1 c.definition_row-row.ensures c.in-Other.is (given _ refl)
+returns-in-Other c = definition_then c.requires.0 c.requires.1 c.definition_row-row.ensures c.in-Other.is (given _)
 
 pub returns-in-Message : goal.returns-in-Message
 unfolding definition_node
-returns-in-Message c = definition_then c.requires.0 c.requires.1 c.definition_row-row.ensures c.in-Message.is (elsewhere _ c.check_message-c.ensures)
+returns-in-Message c = definition_then c.requires.0 c.requires.1 c.definition_row-row.ensures c.in-Message.is (elsewhere _ _ c.check_message.ensures c.is_some.ensures)
 
 pub returns-in-GenericAlias : goal.returns-in-GenericAlias
 unfolding definition_node
-returns-in-GenericAlias c = definition_then c.requires.0 c.requires.1 c.definition_row-row.ensures c.in-GenericAlias.is (elsewhere _ c.check_generic_alias-c.ensures)
+returns-in-GenericAlias c = definition_then c.requires.0 c.requires.1 c.definition_row-row.ensures c.in-GenericAlias.is (elsewhere _ _ c.check_generic_alias.ensures c.is_some-in-GenericAlias.ensures)
 
 pub returns-in-Trait : goal.returns-in-Trait
 unfolding definition_node
-returns-in-Trait c = definition_then c.requires.0 c.requires.1 c.definition_row-row.ensures c.in-Trait.is (elsewhere _ c.check_trait-c.ensures)
+returns-in-Trait c = definition_then c.requires.0 c.requires.1 c.definition_row-row.ensures c.in-Trait.is (elsewhere _ _ c.check_trait.ensures c.is_some-in-Trait.ensures)
 
 pub returns-in-Implementation : goal.returns-in-Implementation
 unfolding definition_node
-returns-in-Implementation c = definition_then c.requires.0 c.requires.1 c.definition_row-row.ensures c.in-Implementation.is (elsewhere _ c.check_implementation-c.ensures)
+returns-in-Implementation c = definition_then c.requires.0 c.requires.1 c.definition_row-row.ensures c.in-Implementation.is (elsewhere _ _ c.check_implementation.ensures c.is_some-in-Implementation.ensures)
 
 pub returns-in-Unknown : goal.returns-in-Unknown
 unfolding definition_node

@@ -30,4 +30,4 @@ returns-then-row c = name_then c.requires.0 c.requires.1 c.name_row-row.ensures 
 
 pub returns : goal.returns
 unfolding name_row
-returns c = name_then c.requires.0 c.requires.1 c.name_row-row.ensures _ (rule_then _ (not-false _ c.if-not-size.false-raw) (rule_then _ (le-leb (c.name_row-row.result.start + c.name_row-row.result.size) _ (omega arith)) (rule_then _ (own_text c.args.l.now.image.now c.name_row-row.result.start c.name_row-row.result.size c.well_formed-2.ensures ∙ not-false _ c.if-not-well_formed.false-raw) (rule_then _ (not-false _ c.if-not-definition-l.false-raw) (last _ (alias_read _ _ _ _ _ _ _ c.if-row.false c.check_type-a.ensures))))))
+returns c = name_then c.requires.0 c.requires.1 c.name_row-row.ensures _ (rule_then _ (not-false _ c.if-not-size.false-raw) (rule_then _ (le-leb (c.name_row-row.result.start + c.name_row-row.result.size) _ (omega arith)) (rule_then _ (own_text c.args.l.now.image.now c.name_row-row.result.start c.name_row-row.result.size c.well_formed-2.ensures ∙ not-false _ c.if-not-well_formed.false-raw) (rule_then _ (not-false _ c.if-not-definition-l.false-raw) (last _ (alias_read _ _ _ _ _ _ _ c.if-row.false _ c.check_type.ensures c.is_some.ensures))))))
