@@ -3,6 +3,7 @@
 ghost use Rattle.std.specs.Prelude.{◌≡◌, length};
 ghost use Rattle.programs.specs.Clauses.{AnswersLowest, TellsLowest};
 
+use crate::room::room;
 use answers::answer::Answer;
 use call_answer::Call;
 use rules::bounds::{DETAIL_BYTES, IMAGE_BYTES};
@@ -36,18 +37,11 @@ pub fn answer_lines(call: Call, image: &[u8], text: &mut [u8]) -> usize
     lines::answer::put_answer(text, 0, a, output)
 }
 
-// Room for these lines. The statement gives only the length, which lending needs.
-fn room() -> [u8; LINES_BYTES]
-    ensures { 180279 ≡ length result }
-{
-    [0; LINES_BYTES]
-}
-
 // The call on the image in standard input, for its lowest implementation: answered, and its lines handed to one `write_all`.
 pub fn run<R: Input + Print>(rt: &R, call: Call) -> std::io::Result<()> {
     let mut image = [0u8; INPUT_BYTES];
     let len = crate::input::fill(&mut rt.reader(), &mut image)?;
-    let mut text = room();
+    let mut text = room::<LINES_BYTES>();
     let n = answer_lines(call, &image[..len], &mut text);
     std::io::writer(rt).write_all(&text[..n])
 }

@@ -2,54 +2,54 @@
 // differs, the edge cases that have names of their own, and how much was compared.
 #![tactic(auto)]
 
-ghost use Rattle.std.specs.Prelude.{◌≡◌, length};
+ghost use Rattle.std.specs.Prelude.{◌≡◌, IfSome, take};
+ghost use Rattle.std.specs.Option.{option_copied, option_map};
 ghost use Rattle.io.specs.Counts.{IsPrefixLen};
 ghost use Rattle.lines.specs.Text.{Tells};
 ghost use Rattle.replay.specs.Printed.{printed};
 
+use programs::input::read_file;
+use programs::room::room;
 use std::io::Write;
 
-// Room for the cases. The statement gives only the length, which lending needs.
-fn room() -> [u8; 1048576]
-    ensures { 1048576 ≡ length result }
-{
-    [0; 1048576]
-}
+// Room for the cases.
+const CASES_BYTES: usize = 1048576;
 
 // Room for the labels.
-fn names_room() -> [u8; 65536]
-    ensures { 65536 ≡ length result }
-{
-    [0; 65536]
-}
+const LABELS_BYTES: usize = 65536;
 
 // Room for what is told: more than the stored cases give if every one of them differs.
-fn text_room() -> [u8; 131072]
-    ensures { 131072 ≡ length result }
-{
-    [0; 131072]
-}
+const TEXT_BYTES: usize = 131072;
 
 // What is written: the replay, where both files were read. The second statement follows from the first, and is what
 // lending the written part needs.
-fn told(ok: bool, cases: &[u8], labels: &[u8], text: &mut [u8]) -> usize
-    ensures tells { Tells (printed ok cases.now labels.now) 0 result text.old text.new }
+fn told(cases: Option<&[u8]>, labels: Option<&[u8]>, text: &mut [u8]) -> usize
+    ensures tells { Tells (printed (option_copied cases.entry) (option_copied labels.entry)) 0 result text.old text.new }
     ensures prefix_len { IsPrefixLen result text.new }
 {
-    if !ok {
+    let (Some(cases), Some(labels)) = (cases, labels) else {
         return replay_told::files::unread(text);
-    }
+    };
     replay_verdict::replay(cases, labels, text)
 }
 
+// The part of a file's bytes that was read.
+fn part(bytes: &[u8], len: Option<usize>) -> Option<&[u8]>
+    requires { IfSome len (λ n. IsPrefixLen n bytes.now) }
+    ensures { option_copied result ≡ option_map (λ n. take n bytes.now) len }
+{
+    match len {
+        Some(n) => Some(&bytes[..n]),
+        None => None,
+    }
+}
+
 fn main(rt: HostRuntime) -> std::io::Result<()> {
-    let mut file = room();
-    let of_file = programs::input::read_file(&rt, b"cases.bin", &mut file);
-    let mut names = names_room();
-    let of_names = programs::input::read_file(&rt, b"labels.txt", &mut names);
-    let n = of_file.len;
-    let m = of_names.len;
-    let mut text = text_room();
-    let count = told(of_file.ok & of_names.ok, &file[..n], &names[..m], &mut text);
+    let mut file = room::<CASES_BYTES>();
+    let of_file = read_file(&rt, b"cases.bin", &mut file);
+    let mut names = room::<LABELS_BYTES>();
+    let of_names = read_file(&rt, b"labels.txt", &mut names);
+    let mut text = room::<TEXT_BYTES>();
+    let count = told(part(&file, of_file), part(&names, of_names), &mut text);
     std::io::writer(&rt).write_all(&text[..count])
 }

@@ -6,6 +6,7 @@ use mathlib.Core.List.{List, [], ◌++◌}
 use native.Mathlib.Omega.{arith}
 use lib.ListN.{length, take, drop}
 use borrow.Author.Tests.{eq-eqb, ne_eqb}
+use Rattle.std.specs.Prelude.{Option, Some, None}
 use Rattle.words.specs.Words.{word_at}
 use Rattle.lines.specs.Text.{Tells}
 use Rattle.lines.proofs.Tells.{tells_none, tells_then, tells_same}
@@ -13,13 +14,9 @@ use Rattle.replay_cases.specs.declared.case.Case.{Case}
 use Rattle.replay_cases.specs.declared.verdict.Compared.{Compared}
 use Rattle.replay_cases.specs.Cases.{case_at}
 use Rattle.replay_cases.specs.Labels.{line, line_end, next_line}
-use Rattle.replay_told.specs.Told.{when, case_text}
-use Rattle.replay_verdict.specs.declared.tally.Total.{Total}
-use Rattle.replay_verdict.specs.declared.cases.Step.{Step}
-use Rattle.replay_verdict.specs.declared.cases.Told.{Told}
-use Rattle.replay_verdict.specs.Replayed.{compared, total_of}
+use Rattle.replay_told.specs.Told.{case_text}
+use Rattle.replay_verdict.specs.Replayed.{compared}
 use Rattle.replay_verdict.specs.ReplayText.{told_of, told_from, cases_text}
-use Rattle.replay_verdict.specs.Clauses.{comes_to, Replays}
 
 -- the rest that is told from a place on makes the whole
 pub record Left (whole rest : List ℕ) (start place : ℕ) (old mid : List ℕ) : Type 0 where
@@ -48,40 +45,32 @@ pub told_starts : (file names : List ℕ) (call count at : ℕ) {start : ℕ} {o
     → Left (cases_text file names call) (told_from (count - 0) file names call at 0) start start old old
 told_starts file names call count at ec ea = let n : count - 0 ≡ word_at file 0 = omega arith in rw (n, ea) (record { so = λ new r t. t })
 
--- the first of the cases that are left, where it is ok; one that is not; none
+-- the first of the cases that are left; none there; none left
 module _ (file names : List ℕ) (call count i at name : ℕ) where
-  opened : i < count → (c : Case) → c ≡ case_at file at
-      → told_from (count - i) file names call at name ≡ when c.ok (told_of file c call (line names name) ++ told_from (count - (i + 1)) file names call c.next (next_line names (line_end names name)))
+  opened : i < count → (o : Option Case) → o ≡ case_at file at
+      → told_from (count - i) file names call at name ≡ (elim o as (λ _. List ℕ) [ None ↦ [] | Some c ↦ told_of file c call (line names name) ++ told_from (count - (i + 1)) file names call c.next (next_line names (line_end names name)) ])
   unfolding told_from
-  opened h c e = let n : count - i ≡ suc (count - (i + 1)) = omega arith in rw (n, e)
+  opened h o e = let n : count - i ≡ suc (count - (i + 1)) = omega arith in rw (n, e)
 
-  first_told : (c : Case) (end after : ℕ) → i < count → c ≡ case_at file at → c.ok ≡ true → end ≡ line_end names name → after ≡ next_line names end
+  first_told : (c : Case) (end after : ℕ) → i < count → Some c ≡ case_at file at → end ≡ line_end names name → after ≡ next_line names end
       → told_from (count - i) file names call at name ≡ told_of file c call (take (end - name) (drop name names)) ++ told_from (count - (i + 1)) file names call c.next after
-  first_told c end after h e o ee ea = opened h c e ∙ rw (o, ea, ee)
-
-  none_told : (c : Case) → i < count → c ≡ case_at file at → c.ok ≡ false → told_from (count - i) file names call at name ≡ []
-  none_told c h e o = opened h c e ∙ rw o
+  first_told c end after h e ee ea = opened h (Some c) e ∙ rw (ea, ee)
 
   all_told : count ≤ i → told_from (count - i) file names call at name ≡ []
   unfolding told_from
   all_told h = let n : count - i ≡ 0 = omega arith in rw n
 
   -- a case more is told
-  pub told_more : (c : Case) (end after : ℕ) {whole : List ℕ} {start place next : ℕ} {old mid new : List ℕ} → i < count → c ≡ case_at file at → c.ok ≡ true → end ≡ line_end names name → after ≡ next_line names end
+  pub told_more : (c : Case) (end after : ℕ) {whole : List ℕ} {start place next : ℕ} {old mid new : List ℕ} → i < count → Some c ≡ case_at file at → end ≡ line_end names name → after ≡ next_line names end
       → place ≤ length mid → Left whole (told_from (count - i) file names call at name) start place old mid → Tells (told_of file c call (take (end - name) (drop name names))) place next mid new
       → Left whole (told_from (count - (i + 1)) file names call c.next after) start next old new
-  told_more c end after h e o ee ea p l t = left_more p (left_same (first_told c end after h e o ee ea) l) t
+  told_more c end after h e ee ea p l t = left_more p (left_same (first_told c end after h e ee ea) l) t
 
   -- and none is left
-  pub told_stops : (c : Case) {whole : List ℕ} {start place : ℕ} {old mid : List ℕ} → i < count → c ≡ case_at file at → c.ok ≡ false
+  pub told_stops : {whole : List ℕ} {start place : ℕ} {old mid : List ℕ} → i < count → None ≡ case_at file at
       → place ≤ length mid → Left whole (told_from (count - i) file names call at name) start place old mid → Tells whole start place old mid
-  told_stops c h e o p l = left_none p (left_same (none_told c h e o) l)
+  told_stops h e p l = left_none p (left_same (opened h None e) l)
 
   pub told_ends : {whole : List ℕ} {start place : ℕ} {old mid : List ℕ} → count ≤ i
       → place ≤ length mid → Left whole (told_from (count - i) file names call at name) start place old mid → Tells whole start place old mid
   told_ends h p l = left_none p (left_same (all_told h) l)
-
--- what the loop gives back
-pub came : (file names : List ℕ) (call start : ℕ) (old new : List ℕ) (whole : Bool) (i : ℕ) (s : Step) {r : Told} → r ≡ comes_to whole i s
-    → ◌≡◌ {A = Total} (record { whole = whole; reached = i; tally = s.tally }) (total_of file call) → Tells (cases_text file names call) start s.place old new → Replays file names call start old new r
-came file names call start old new whole i s e t u = rw e (t, u)

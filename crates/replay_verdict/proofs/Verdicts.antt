@@ -7,30 +7,23 @@ use native.Mathlib.Omega.{arith}
 use lib.Dec.{eqb}
 use lib.ListN.{length, take, replicate, length-replicate}
 use borrow.Author.Tests.{eq-eqb, ne_eqb}
+use Rattle.std.specs.Prelude.{Option, Some, None, Result, Err}
 use Rattle.rules.specs.Answer as rules
 use Rattle.words.specs.Words.{word_at}
+use Rattle.call_answer.specs.declared.Call.{Call}
 use Rattle.call_answer.specs.Calls.{answer_for}
 use Rattle.replay_cases.specs.declared.case.Case.{Case}
 use Rattle.replay_cases.specs.declared.verdict.Compared.{Compared}
 use Rattle.replay_cases.specs.Cases.{Askable, case_at}
 use Rattle.replay_cases.specs.Judged.{part, output_fill, detail_fill, judged, agrees}
 use Rattle.replay_verdict.specs.declared.tally.Tally.{Tally}
-use Rattle.replay_verdict.specs.declared.tally.Total.{Total}
-use Rattle.replay_verdict.specs.Replayed.{which_call, compared, one_where_not, tallied, either, counted_of, none_yet, on_or_stopped, total_from, total_of}
-
--- the number of project_impl, and any other
-module _ (n : ℕ) (image : List ℕ) (row : ℕ) (output detail : List ℕ) {a : rules.Answer} where
-  pub projection_asked : n ≡ 0 → a ≡ rules.project_answer image row output detail → a ≡ answer_for (which_call n) image row output detail
-  projection_asked e h = rw (eq-eqb n 0 e) h
-
-  pub signatures_asked : (n ≡ 0 → ⊥) → a ≡ rules.signatures_answer image row output detail → a ≡ answer_for (which_call n) image row output detail
-  signatures_asked e h = rw (ne_eqb n 0 e) h
+use Rattle.replay_verdict.specs.Replayed.{which_call, compared, one_where_not, tallied, either, counted_of, none_yet, came, total_from, total_of}
 
 -- the answer on the case's image, and its verdict; the buffers stay as long as they were lent
-pub asked_verdict : (file : List ℕ) (c : Case) (output detail image : List ℕ) {a : rules.Answer} {r : Compared} {n m : ℕ} → image ≡ part file c.image
-    → a ≡ answer_for (which_call c.call) image c.row.0 output detail → n ≡ length output → m ≡ length detail → r ≡ judged file c a (n + m)
+pub asked_verdict : (file : List ℕ) (c : Case) (output detail image : List ℕ) {call : Call} {a : rules.Answer} {r : Compared} {n m : ℕ} → image ≡ part file c.image → call ≡ which_call c.call
+    → a ≡ answer_for call image c.row.0 output detail → n ≡ length output → m ≡ length detail → r ≡ judged file c a (n + m)
     → r ≡ judged file c (answer_for (which_call c.call) (part file c.image) c.row.0 output detail) (length output + length detail)
-asked_verdict file c output detail image ei ea en em er = er ∙ rw (ea, ei, en, em)
+asked_verdict file c output detail image ei ec ea en em er = er ∙ rw (ea, ec, ei, en, em)
 
 -- the first bytes of an array that is filled with one
 pub take_filled : (n m x : ℕ) → n ≤ m → take n (replicate m x) ≡ replicate n x
@@ -69,21 +62,19 @@ pub starts : (file : List ℕ) (call count at : ℕ) (t : Tally) → count ≡ w
     → (t.cases ≤ 0) × (t.bytes ≤ 66560 * 0) × (t.differ ≤ 0) × (total_from (count - 0) file call 0 at t ≡ total_of file call)
 starts file call count at t ec et ea = let n : count - 0 ≡ word_at file 0 = omega arith in rw (n, et, ea) (omega arith, omega arith, omega arith, refl)
 
--- what is left of a file's cases decides: a case that is ok, one that is not, and the end
-module _ (file : List ℕ) (call count i at : ℕ) (t : Tally) {all : Total} (left : total_from (count - i) file call i at t ≡ all) where
-  first : (c : Case) (u : Tally) → i < count → c ≡ case_at file at → u ≡ counted_of file c call t
-      → on_or_stopped c.ok (total_from (count - (i + 1)) file call (i + 1) c.next u) (record { whole = false; reached = i; tally = t }) ≡ all
+-- what is left of a file's cases decides: a case, none, and the end
+module _ (file : List ℕ) (call count i at : ℕ) (t : Tally) {all : Result Tally ℕ} (left : total_from (count - i) file call i at t ≡ all) where
+  turn : i < count → (o : Option Case) → o ≡ case_at file at
+      → (elim o as (λ _. Result Tally ℕ) [ None ↦ Err i | Some c ↦ total_from (count - (i + 1)) file call (i + 1) c.next (counted_of file c call t) ]) ≡ all
   unfolding total_from
-  first c u h e eu =
-      let n : suc (count - (i + 1)) ≡ count - i = omega arith in
-      rw (eu, e) (ap (λ (k : ℕ). total_from k file call i at t) n ∙ left)
+  turn h o e = let n : suc (count - (i + 1)) ≡ count - i = omega arith in rw e (ap (λ (k : ℕ). total_from k file call i at t) n ∙ left)
 
-  pub goes_on : (c : Case) (u : Tally) → i < count → c ≡ case_at file at → c.ok ≡ true → u ≡ counted_of file c call t → total_from (count - (i + 1)) file call (i + 1) c.next u ≡ all
-  goes_on c u h e o eu = rw o at (first c u h e eu)
+  pub goes_on : (c : Case) (u : Tally) → i < count → Some c ≡ case_at file at → u ≡ counted_of file c call t → total_from (count - (i + 1)) file call (i + 1) c.next u ≡ all
+  goes_on c u h e eu = rw eu (turn h (Some c) e)
 
-  pub stops : (c : Case) → i < count → c ≡ case_at file at → c.ok ≡ false → ◌≡◌ {A = Total} (record { whole = false; reached = i; tally = t }) all
-  stops c h e o = rw o at (first c (counted_of file c call t) h e refl)
+  pub stops : i < count → None ≡ case_at file at → Err i ≡ all
+  stops h e = turn h None e
 
-  pub ends : count ≤ i → ◌≡◌ {A = Total} (record { whole = eqb at (length file); reached = i; tally = t }) all
+  pub ends : count ≤ i → i ≤ count → came (eqb at (length file)) t count ≡ all
   unfolding total_from
-  ends h = let n : 0 ≡ count - i = omega arith in ap (λ (k : ℕ). total_from k file call i at t) n ∙ left
+  ends h l = let n : 0 ≡ count - i = omega arith in let m : count ≡ i = omega arith in rw m (ap (λ (k : ℕ). total_from k file call i at t) n ∙ left)

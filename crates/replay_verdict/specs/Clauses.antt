@@ -1,5 +1,5 @@
 -- Contracts that are too long for a line, each called after its function.
-use Rattle.std.specs.Prelude.{◌+◌, ℕ, Bool, List, ◌≡◌, length}
+use Rattle.std.specs.Prelude.{◌+◌, ℕ, List, ◌≡◌, length}
 use Rattle.call_answer.specs.Calls.{answer_for}
 use Rattle.lines.specs.Text.{Tells}
 use Rattle.replay_cases.specs.declared.case.Case.{Case}
@@ -19,9 +19,6 @@ Judges file c output detail r =
 abbrev pub Steps : List ℕ → List ℕ → Case → ℕ → Step → List ℕ → List ℕ → Step → Type 0
 Steps file label c call s text text' r =
     (r.tally ≡ counted_of file c call s.tally) × Tells (told_of file c call label) s.place r.place text text'
-
-abbrev pub comes_to : Bool → ℕ → Step → Told
-comes_to whole reached s = record { total = record { whole = whole; reached = reached; tally = s.tally }; place = s.place }
 
 -- what the file's cases come to, and what is told of them
 abbrev pub Replays : List ℕ → List ℕ → ℕ → ℕ → List ℕ → List ℕ → Told → Type 0

@@ -1,5 +1,5 @@
 -- What the replay says of the stored cases: each call asked anew, its answer held against the case, and the verdicts counted.
-use Rattle.std.specs.Prelude.{ℕ, zero, suc, ◌+◌, min, Bool, true, false, List, eqb, length, replicate}
+use Rattle.std.specs.Prelude.{ℕ, zero, suc, ◌+◌, min, Bool, true, false, Some, None, Result, Ok, Err, List, eqb, length, replicate}
 use Rattle.rules.specs.Answer as rules
 use Rattle.words.specs.Words.{word_at}
 use Rattle.call_answer.specs.declared.Call.{Call}
@@ -9,11 +9,15 @@ use Rattle.replay_cases.specs.declared.verdict.Compared.{Compared}
 use Rattle.replay_cases.specs.Cases.{case_at}
 use Rattle.replay_cases.specs.Judged.{part, output_fill, detail_fill, judged, agrees}
 use Rattle.replay_verdict.specs.declared.tally.Tally.{Tally}
-use Rattle.replay_verdict.specs.declared.tally.Total.{Total}
 
 abbrev call_when : Bool → Call
 call_when true = Call.Projection
 call_when false = Call.Signatures
+
+-- a call as the file names it
+abbrev pub number_of : Call → ℕ
+number_of Call.Projection = 0
+number_of Call.Signatures = 1
 
 -- the call that a case's number names
 abbrev pub which_call : ℕ → Call
@@ -46,17 +50,16 @@ counted_of file c call t = either (eqb c.call call) (tallied t (compared file c)
 abbrev pub none_yet : Tally
 none_yet = record { cases = 0; bytes = 0; differ = 0 }
 
-abbrev pub on_or_stopped : Bool → Total → Total → Total
-on_or_stopped true on stopped = on
-on_or_stopped false on stopped = stopped
+-- what all cases come to, where the file ends behind the last of them
+abbrev pub came : Bool → Tally → ℕ → Result Tally ℕ
+came true t count = Ok t
+came false t count = Err count
 
--- so many cases from a place on, the first of them the i-th: up to one that is not ok, or to the last, which ends where a whole file ends
-unfoldable pub total_from : ℕ → List ℕ → ℕ → ℕ → ℕ → Tally → Total
-total_from zero file call i at t = record { whole = eqb at (length file); reached = i; tally = t }
-total_from (suc n) file call i at t =
-    let c = case_at file at in
-    on_or_stopped c.ok (total_from n file call (i + 1) c.next (counted_of file c call t)) (record { whole = false; reached = i; tally = t })
+-- so many cases from a place on, the first of them the i-th: up to where no case stands, or to the last, which ends where a whole file ends
+unfoldable pub total_from : ℕ → List ℕ → ℕ → ℕ → ℕ → Tally → Result Tally ℕ
+total_from zero file call i at t = came (eqb at (length file)) t i
+total_from (suc n) file call i at t = elim (case_at file at) [ None ↦ Err i | Some c ↦ total_from n file call (i + 1) c.next (counted_of file c call t) ]
 
 -- the file's first word is the number of its cases, which stand behind it
-abbrev pub total_of : List ℕ → ℕ → Total
+abbrev pub total_of : List ℕ → ℕ → Result Tally ℕ
 total_of file call = total_from (word_at file 0) file call 0 (min 4 (length file)) none_yet

@@ -8,35 +8,37 @@ mod tally;
 
 ghost use Rattle.std.specs.Prelude.{◌≤◌, length};
 ghost use Rattle.lines.specs.Text.{Tells};
+ghost use Rattle.replay_verdict.specs.Replayed.{number_of};
 ghost use Rattle.replay_verdict.specs.ReplayText.{total_text, call_text, replay_text};
 
-use asked::{EXPECTED_SIGNATURES, PROJECT_IMPL};
+use call_answer::Call;
 use cases::replayed;
-use tally::Total;
+use tally::Tally;
 
 // What a file's cases come to.
-fn total(text: &mut [u8], at: usize, title: &[u8], t: Total) -> usize
+fn total(text: &mut [u8], at: usize, title: &[u8], t: Result<Tally, u32>) -> usize
     requires { at ≤ length text.old }
     ensures { Tells (total_text title.now t) at result text.old text.new }
 {
-    if !t.whole {
-        return replay_told::files::damaged(text, at, t.reached);
+    match t {
+        Ok(tally) => {
+            replay_told::files::tally(text, at, title, tally.cases, tally.bytes, tally.differ)
+        }
+        Err(reached) => replay_told::files::damaged(text, at, reached),
     }
-    let tally = t.tally;
-    replay_told::files::tally(text, at, title, tally.cases, tally.bytes, tally.differ)
 }
 
 // All cases of a call, and what they come to.
 fn replay_call(
     file: &[u8],
     names: &[u8],
-    call: u32,
+    call: Call,
     title: &[u8],
     text: &mut [u8],
     at: usize,
 ) -> usize
     requires { at ≤ length text.old }
-    ensures { Tells (call_text file.now names.now call title.now) at result text.old text.new }
+    ensures { Tells (call_text file.now names.now (number_of call) title.now) at result text.old text.new }
 {
     let r = replayed(file, names, call, text, at);
     total(text, r.place, title, r.total)
@@ -46,11 +48,11 @@ fn replay_call(
 pub fn replay(file: &[u8], names: &[u8], text: &mut [u8]) -> usize
     ensures { Tells (replay_text file.now names.now) 0 result text.old text.new }
 {
-    let next = replay_call(file, names, PROJECT_IMPL, b"project_impl", text, 0);
+    let next = replay_call(file, names, Call::Projection, b"project_impl", text, 0);
     replay_call(
         file,
         names,
-        EXPECTED_SIGNATURES,
+        Call::Signatures,
         b"expected_signatures",
         text,
         next,

@@ -12,14 +12,6 @@ pub struct Tally {
     pub differ: u32,
 }
 
-// What a file's cases come to, where it is whole; else up to the case at which that is seen.
-#[derive(Clone, Copy)]
-pub struct Total {
-    pub whole: bool,
-    pub reached: u32,
-    pub tally: Tally,
-}
-
 // Nothing yet.
 pub fn none() -> Tally
     ensures { result ≡ none_yet }
