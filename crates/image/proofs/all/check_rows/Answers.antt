@@ -13,4 +13,4 @@ pub returns-then-not-check_rows : goal.returns-then-not-check_rows
 returns-then-not-check_rows c = strings_refuse _ c.requires c.check_rows-named.ensures (not-false _ c.if-not-named.false-raw) c.texts_differ-differ.ensures (not-false _ c.if-not-differ.false-raw) c.check_rows.ensures (not-true _ c.if-not-check_rows.true-raw)
 
 pub returns : goal.returns
-returns c = definitions_say _ c.requires c.check_rows-named.ensures (not-false _ c.if-not-named.false-raw) c.texts_differ-differ.ensures (not-false _ c.if-not-differ.false-raw) c.check_rows.ensures (not-false _ c.if-not-check_rows.false-raw) c.check_rows-2.ensures
+returns c = definitions_say _ c.requires c.check_rows-named.ensures (not-false _ c.if-not-named.false-raw) c.texts_differ-differ.ensures (not-false _ c.if-not-differ.false-raw) c.check_rows.ensures (not-false _ c.if-not-check_rows.false-raw) _ c.check_rows-2.ensures
