@@ -6,7 +6,7 @@ ghost use Rattle.answers.specs.Answers.{Refuses, RefusesAlone, AcceptsAll, TooSh
 use crate::refusal::Refusal;
 use rules::ids::NameId;
 
-// The length is in bytes: written, or needed under 24.
+// The length is in bytes: written, or needed under 24. Number and fields stay as 01 has them, and as the C interface puts them in a block.
 #[derive(Clone, Copy)]
 pub struct Answer {
     pub number: u32,

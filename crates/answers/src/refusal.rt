@@ -11,6 +11,7 @@ use type_words::HeldType;
 // Words of the longest detail: 6, kind 4, of two types.
 pub const DETAIL_WORDS: usize = 131;
 
+// The number is 01's, and its words lie in an array with a count: nothing allocates.
 #[derive(Clone, Copy)]
 pub struct Refusal {
     pub number: u32,

@@ -39,11 +39,14 @@ fn pass(call: Call, l: &Layout, number: TypeId, out: &mut [u8]) -> Outcome
     requires { Cut l.now × Opens l.now }
     ensures { (s : CompiledSchema) → Open l.now s → Comes (call_of call number.0 s) out.old out.new result }
 {
-    let f = impl_trait::find_subject(l, number);
-    if f.number != 0 {
-        return answers::answer::refused(Refusal::named(f.number, NameId::NONE, f.name));
+    match impl_trait::find_subject(l, number) {
+        Ok(f) => after_subject(call, l, f, out),
+        Err(none) => answers::answer::refused(Refusal::named(
+            none.number(),
+            NameId::NONE,
+            none.name(),
+        )),
     }
-    after_subject(call, l, f, out)
 }
 
 // Bytes that the first pass keeps: what most outputs need.

@@ -6,7 +6,6 @@ mod parts;
 
 ghost use Rattle.std.specs.Prelude.{◌≡◌, ℕ, ◌≤◌};
 ghost use Rattle.rules.specs.Syntax.{ImplFnDef};
-ghost use Rattle.image_layout.specs.Rows.{Inside};
 ghost use Rattle.image_layout.specs.Open.{pool_words};
 ghost use Rattle.pool_definitions.specs.DefinitionAt.{FunctionStands};
 ghost use Rattle.check_signature.specs.Clauses.{ChecksSignature};
@@ -38,7 +37,6 @@ pub fn check_signature(
     count: usize,
     returns: MaybeType,
 ) -> Outcome
-    requires { Inside l.now }
     ensures { ChecksSignature l.now at name names.now words.now lens.now count returns result }
 {
     let pool = l.pool;
@@ -59,7 +57,6 @@ pub fn check_signature(
 
 // Where the body of the function at `at` stands.
 pub fn body_start(l: &Layout, at: usize) -> usize
-    requires { Inside l.now }
     ensures { (f : ImplFnDef) (n : ℕ) (h : FunctionStands l.now.names.rows l.now.strings.rows (pool_words l.now) f at n) → result ≡ h.parts.return_end }
 {
     let pool = l.pool;

@@ -1,6 +1,5 @@
 // A function's parameters in the pool against the expected ones in the table.
 ghost use Rattle.std.specs.Prelude.{◌≡◌, get_or};
-ghost use Rattle.image_layout.specs.Rows.{Inside};
 ghost use Rattle.check_signature.specs.Clauses.{ChecksParams};
 
 use answers::answer::Outcome;
@@ -27,13 +26,11 @@ pub fn check_params(
     lens: &[u32],
     count: usize,
 ) -> Outcome
-    requires { Inside l.now }
     ensures { ChecksParams l.now at function names.now words.now lens.now count result }
 {
     let pool = l.pool;
-    let mut i = 0;
     let mut next = at;
-    while i < count {
+    for i in 0..count {
         let found = NameId(image_words::section_word(pool, next));
         let place = image_words::after(pool, next);
         let h = type_from_pool::hold_type(l, place);
@@ -45,7 +42,6 @@ pub fn check_params(
             return r;
         }
         next = h.next;
-        i += 1;
     }
     answers::answer::accepted(0, 0)
 }

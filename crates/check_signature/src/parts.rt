@@ -1,7 +1,6 @@
 // The parts of an implementation's function, where it stands in the pool.
 ghost use Rattle.std.specs.Prelude.{◌≡◌, ℕ};
 ghost use Rattle.rules.specs.Syntax.{ImplFnDef};
-ghost use Rattle.image_layout.specs.Rows.{Inside};
 ghost use Rattle.image_layout.specs.Open.{pool_words};
 ghost use Rattle.pool_definitions.specs.DefinitionAt.{FunctionStands};
 ghost use Rattle.check_signature.specs.Clauses.{HoldsReturn};
@@ -11,7 +10,6 @@ use type_words::MaybeType;
 
 // Where the return of the function at `at` stands: behind its name and its parameters.
 pub fn return_start(l: &Layout, at: usize) -> usize
-    requires { Inside l.now }
     ensures { (f : ImplFnDef) (n : ℕ) (h : FunctionStands l.now.names.rows l.now.strings.rows (pool_words l.now) f at n) → result ≡ h.parts.params_end }
 {
     let pool = l.pool;
@@ -21,7 +19,6 @@ pub fn return_start(l: &Layout, at: usize) -> usize
 
 // The return at `at`: 0, or 1 and its type.
 pub fn hold_return(l: &Layout, at: usize) -> MaybeType
-    requires { Inside l.now }
     ensures { HoldsReturn l.now at result }
 {
     let pool = l.pool;

@@ -1,6 +1,4 @@
 -- What a call is asked of, as what signatures are asked of. Assumes nothing.
-use Prim.Native.Nat.{ℕ}
-use mathlib.Core.List.{List}
 use Rattle.image_layout.specs.declared.Layout.{Layout}
 use Rattle.impl_trait.specs.declared.Subject.{Subject}
 use Rattle.impl_trait.specs.Subjects.{About}

@@ -5,6 +5,7 @@ use mathlib.Core.Bool.{true, false}
 use mathlib.Core.List.{List, [], ◌∷◌, ◌++◌}
 use native.Mathlib.Omega.{arith}
 use lib.ListN.{length, get_or, length-append}
+use Rattle.std.specs.Prelude.{Option, Some, None}
 use Rattle.rules.specs.Syntax.{TraitFnDef}
 use Rattle.rules.specs.Refusal.{Result, err, ◌>>=◌, in_function}
 use Rattle.rules.specs.Signatures.{PortableSignature, resolve_signature, expected_list}
@@ -75,39 +76,44 @@ module _ {l : Layout} {params : List ℕ} {at : ℕ} (h : FunctionsHere l params
       pub turn_here : FunctionHere l params next
       turn_here = here_o v.left v.row (omega (arith, v.count))
 
-      module _ {newer : List ℕ} {r : Part} (p : (k : FunctionHere l params next) → PartSays words_of poisoned_signature (resolve_signature k.schema k.seen k.tree) k.behind place new newer r) where
-        -- its name, and 8 or 7 of it
-        abbrev Refused : ℕ → List TraitFnDef → Type 0
-        Refused n left = all_of left ≡ err (in_function n (get_or (pool_words l) next 0))
+      -- what is said of it
+      abbrev Said : List ℕ → Option Part → Type 0
+      Said newer r = (k : FunctionHere l params next) → PartSays words_of poisoned_signature (resolve_signature k.schema k.seen k.tree) k.behind place new newer r
 
-        large_o : (left : List TraitFnDef) → Functions left next → 0 < length left → r.ok ≡ false → Refused 8 left
-        large_o [] w c e = absurd (omega arith)
-        large_o (f ∷ fs) w c e = list_large h.schema h.seen f fs (part_large (p (first f fs w)) e) ∙ ap (λ (k : ℕ). err (in_function 8 k)) (sym w.1.parts.name_at.is)
+      -- its name, and 8 or 7 of it
+      abbrev Refused : ℕ → List TraitFnDef → Type 0
+      Refused n left = all_of left ≡ err (in_function n (get_or (pool_words l) next 0))
 
-        poisoned_o : (left : List TraitFnDef) → Functions left next → 0 < length left → r.ok ≡ true → r.poisoned ≡ true → Refused 7 left
-        poisoned_o [] w c e q = absurd (omega arith)
-        poisoned_o (f ∷ fs) w c e q =
-            let m = made (p (first f fs w)) e in
+      refused_o : {newer : List ℕ} {n : ℕ} → Refused n v.left → {x : ℕ} → x ≡ get_or (pool_words l) next 0 → {first_out : List ℕ} {o : Outcome} → o.ok ≡ false → refusal_of o.refusal ≡ in_function n x
+          → Comes (in_words (all_of h.tree)) first_out newer o
+      unfolding ◌>>=◌
+      refused_o {n = n} e q d f = comes_err (ap in_words (v.so ∙ ap (prepend visits v.made) e ∙ prepend_err visits v.made)) d (f ∙ ap (in_function n) q)
+
+      module _ {newer : List ℕ} (p : Said newer None) where
+        large_o : (left : List TraitFnDef) → Functions left next → 0 < length left → Refused 8 left
+        large_o [] w c = absurd (omega arith)
+        large_o (f ∷ fs) w c = list_large h.schema h.seen f fs (part_large (p (first f fs w))) ∙ ap (λ (k : ℕ). err (in_function 8 k)) (sym w.1.parts.name_at.is)
+
+        pub turn_large : {x : ℕ} → x ≡ get_or (pool_words l) next 0 → {first_out : List ℕ} {o : Outcome} → o.ok ≡ false → refusal_of o.refusal ≡ in_function 8 x
+            → Comes (in_words (all_of h.tree)) first_out newer o
+        turn_large = refused_o (large_o v.left v.row (omega (arith, v.count)))
+
+      module _ {newer : List ℕ} {r : Part} (p : Said newer (Some r)) where
+        poisoned_o : (left : List TraitFnDef) → Functions left next → 0 < length left → r.poisoned ≡ true → Refused 7 left
+        poisoned_o [] w c q = absurd (omega arith)
+        poisoned_o (f ∷ fs) w c q =
+            let m = made (p (first f fs w)) in
             list_poisoned h.schema h.seen f fs m.is (sym m.so.poison ∙ q) ∙ ap (λ (k : ℕ). err (in_function 7 k)) (sym w.1.parts.name_at.is)
 
-        refused_o : {n : ℕ} → Refused n v.left → {x : ℕ} → x ≡ get_or (pool_words l) next 0 → {first_out : List ℕ} {o : Outcome} → o.ok ≡ false → refusal_of o.refusal ≡ in_function n x
-            → Comes (in_words (all_of h.tree)) first_out newer o
-        unfolding ◌>>=◌
-        refused_o {n} e q d f = comes_err (ap in_words (v.so ∙ ap (prepend visits v.made) e ∙ prepend_err visits v.made)) d (f ∙ ap (in_function n) q)
-
-        pub turn_large : r.ok ≡ false → {x : ℕ} → x ≡ get_or (pool_words l) next 0 → {first_out : List ℕ} {o : Outcome} → o.ok ≡ false → refusal_of o.refusal ≡ in_function 8 x
-            → Comes (in_words (all_of h.tree)) first_out newer o
-        turn_large e = refused_o (large_o v.left v.row (omega (arith, v.count)) e)
-
-        pub turn_poisoned : r.ok ≡ true → r.poisoned ≡ true → {x : ℕ} → x ≡ get_or (pool_words l) next 0 → {first_out : List ℕ} {o : Outcome} → o.ok ≡ false
+        pub turn_poisoned : r.poisoned ≡ true → {x : ℕ} → x ≡ get_or (pool_words l) next 0 → {first_out : List ℕ} {o : Outcome} → o.ok ≡ false
             → refusal_of o.refusal ≡ in_function 7 x → Comes (in_words (all_of h.tree)) first_out newer o
-        turn_poisoned e q = refused_o (poisoned_o v.left v.row (omega (arith, v.count)) e q)
+        turn_poisoned q = refused_o (poisoned_o v.left v.row (omega (arith, v.count)) q)
 
         more_o : (left : List TraitFnDef) → Functions left next → i + length left ≡ length h.tree → all_of h.tree ≡ prepend visits v.made (all_of left)
-            → r.ok ≡ true → r.poisoned ≡ false → Left (i + 1) r.next r.to (visits + r.visits) newer
-        more_o [] w c s e q = absurd (omega arith)
-        more_o (f ∷ fs) w c s e q =
-            let m = made (p (first f fs w)) e in
+            → r.poisoned ≡ false → Left (i + 1) r.next r.to (visits + r.visits) newer
+        more_o [] w c s q = absurd (omega arith)
+        more_o (f ∷ fs) w c s q =
+            let m = made (p (first f fs w)) in
             let z = (signature_small h.schema h.seen l.names.rows f w.1.good).holds m.v m.a m.is in
             let d : each words_of (v.made ++ (m.a ∷ [])) ≡ each words_of v.made ++ words_of m.a = each_snoc words_of v.made m.a in
             record {
@@ -123,8 +129,8 @@ module _ {l : Layout} {params : List ℕ} {at : ℕ} (h : FunctionsHere l params
               writes = writes_same (sym d) (writes_then v.writes m.so.writes);
             }
 
-        pub turn_goes : r.ok ≡ true → r.poisoned ≡ false → Left (i + 1) r.next r.to (visits + r.visits) newer
-        turn_goes e q = more_o v.left v.row v.count v.so e q
+        pub turn_goes : r.poisoned ≡ false → Left (i + 1) r.next r.to (visits + r.visits) newer
+        turn_goes q = more_o v.left v.row v.count v.so q
 
     -- behind their count, written before
     module _ {w : ℕ} {first_out : List ℕ} (counts : w ≡ get_or (pool_words l) at 0) (count_written : Writes (w ∷ []) 0 from first_out old) where

@@ -9,6 +9,7 @@ ghost use Rattle.expected_functions.specs.Clauses.{ListsExpected};
 
 use answers::answer::Outcome;
 use answers::refusal::Refusal;
+use expected_signature::whole::resolve_signature;
 use image_layout::Layout;
 use rules::ids::NameId;
 use subst_params::ROW;
@@ -23,23 +24,18 @@ pub fn expected_list(l: &Layout, at: usize, params: &[u32], out: &mut [u8]) -> O
     let mut place = answers::output::put(out, 0, count);
     let mut visits = 0;
     let mut next = at + 1;
-    let mut i = 0;
-    while i < count {
-        let f = expected_signature::whole::resolve_signature(l, next, params, out, place);
-        let large = !f.ok;
-        let poisoned = f.poisoned;
-        if large {
+    for _ in 0..count {
+        let Some(f) = resolve_signature(l, next, params, out, place) else {
             let name = NameId(image_words::section_word(pool, next));
             return answers::answer::refused(Refusal::at(8, name));
-        }
-        if poisoned {
+        };
+        if f.poisoned {
             let name = NameId(image_words::section_word(pool, next));
             return answers::answer::refused(Refusal::at(7, name));
         }
         place = f.to;
         visits += f.visits;
         next = f.next;
-        i += 1;
     }
     answers::answer::accepted(place, visits)
 }

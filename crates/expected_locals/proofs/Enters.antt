@@ -2,9 +2,9 @@
 use Prim.Native.Nat.{ℕ, ◌+◌, ◌<◌, ◌≤◌}
 use native.Mathlib.Omega.{arith}
 use mathlib.Core.Path.{◌≡◌, refl, sym, ap, subst, ◌∙◌}
-use mathlib.Core.Bool.{true, false}
 use mathlib.Core.List.{List, [], ◌∷◌, ◌++◌, append-nil, append_assoc}
 use lib.ListN.{length, get_or}
+use Rattle.std.specs.Prelude.{Some, None}
 use Rattle.rules.specs.Syntax.{ResolvedType, TypeExpr, Param}
 use Rattle.rules.specs.Substitute.{Counted, too_large, done, substitute_type}
 use Rattle.rules.specs.Signatures.{resolve_params}
@@ -22,12 +22,12 @@ use Rattle.expected_locals.specs.Entered.{EnteredDone, EnteredAgrees, EnteredSay
 use Rattle.expected_locals.proofs.Puts.{counted}
 use Rattle.expected_signature.proofs.Resolves.{resolve_none, first_large, others_large, both_done}
 
-module _ {rows behind : ℕ} {names words lens : List ℕ} {r : Entered} {o : Counted (List (Param ResolvedType))} where
-  says_large : o ≡ too_large → r.ok ≡ false → EnteredSays rows o behind names words lens r
-  says_large e d = record { is = subst (λ (q : Counted (List (Param ResolvedType))). EnteredAgrees rows q behind names words lens r) (sym e) d }
+module _ {rows behind : ℕ} {names words lens : List ℕ} {o : Counted (List (Param ResolvedType))} where
+  says_large : o ≡ too_large → EnteredSays rows o behind names words lens None
+  says_large e = record { is = subst (λ (q : Counted (List (Param ResolvedType))). EnteredAgrees rows q behind names words lens None) (sym e) refl }
 
-  says_done : {v : ℕ} {ps : List (Param ResolvedType)} → o ≡ done v ps → EnteredDone rows ps behind names words lens r → EnteredSays rows o behind names words lens r
-  says_done e d = record { is = subst (λ (q : Counted (List (Param ResolvedType))). EnteredAgrees rows q behind names words lens r) (sym e) d }
+  says_done : {r : Entered} {v : ℕ} {ps : List (Param ResolvedType)} → o ≡ done v ps → EnteredDone rows ps behind names words lens r → EnteredSays rows o behind names words lens (Some r)
+  says_done {r} e d = record { is = subst (λ (q : Counted (List (Param ResolvedType))). EnteredAgrees rows q behind names words lens (Some r)) (sym e) d }
 
 module _ {l : Layout} {params : List ℕ} {at : ℕ} (h : ParamsHere l params at) where
   abbrev Whole : Counted (List (Param ResolvedType))
@@ -51,11 +51,11 @@ module _ {l : Layout} {params : List ℕ} {at : ℕ} (h : ParamsHere l params at
     inside_o [] w b = absurd (omega arith)
     inside_o (q ∷ qs) w b = w.1.name_at.inside
 
-    stop_o : (left : List (Param TypeExpr)) → Row (ParamStands l) left next h.behind → 0 < length left → (s : Substituted) → AnswersAll l (next + 1) params s → s.ok ≡ false
+    stop_o : (left : List (Param TypeExpr)) → Row (ParamStands l) left next h.behind → 0 < length left → AnswersAll l (next + 1) params None
         → resolve_params h.schema h.seen left ≡ too_large
-    stop_o [] w b s a e = absurd (omega arith)
-    stop_o (q ∷ qs) w b s a e =
-        first_large h.schema h.seen q qs (is_large l.names.rows w.0 s (substitute_type h.schema h.seen q.ty) (a h.schema h.opened h.seen h.views q.ty w.0 (expr_here w.1.type_at)) e)
+    stop_o [] w b a = absurd (omega arith)
+    stop_o (q ∷ qs) w b a =
+        first_large h.schema h.seen q qs (is_large l.names.rows w.0 (substitute_type h.schema h.seen q.ty) (a h.schema h.opened h.seen h.views q.ty w.0 (expr_here w.1.type_at)))
 
     module _ (b : i < length h.tree) where
       -- the next one stands in the pool
@@ -63,9 +63,8 @@ module _ {l : Layout} {params : List ℕ} {at : ℕ} (h : ParamsHere l params at
       turn_inside = inside_o v.left v.row (omega (arith, v.count))
 
       -- it is too large
-      pub turn_stops : (s : Substituted) → AnswersAll l (next + 1) params s → s.ok ≡ false → {names' words' lens' : List ℕ} {r : Entered} → r.ok ≡ false
-          → EnteredSays l.names.rows Whole h.behind names' words' lens' r
-      turn_stops s a e d = says_large (v.large (stop_o v.left v.row (omega (arith, v.count)) s a e)) d
+      pub turn_stops : AnswersAll l (next + 1) params None → {names' words' lens' : List ℕ} → EnteredSays l.names.rows Whole h.behind names' words' lens' None
+      turn_stops a = says_large (v.large (stop_o v.left v.row (omega (arith, v.count)) a))
 
       module _ (names' words' lens' : List ℕ) (s : Substituted) (x : ℕ) where
         -- a local was added as row j
@@ -75,10 +74,10 @@ module _ {l : Layout} {params : List ℕ} {at : ℕ} (h : ParamsHere l params at
         go_o : (left : List (Param TypeExpr)) → Row (ParamStands l) left next h.behind → i + length left ≡ length h.tree
             → (resolve_params h.schema h.seen left ≡ too_large → Whole ≡ too_large)
             → ((w : ℕ) (ts : List (Param ResolvedType)) → resolve_params h.schema h.seen left ≡ done w ts → (u : ℕ) × (Whole ≡ done u (v.made ++ ts)))
-            → AnswersAll l (next + 1) params s → s.ok ≡ true → x ≡ get_or (pool_words l) next 0 → Added i → Left (i + 1) s.next names' words' lens'
-        go_o [] w c large makes a e g f = absurd (omega arith)
-        go_o (q ∷ qs) w c large makes a e g f =
-            let k = taken l.names.rows w.0 s (substitute_type h.schema h.seen q.ty) (a h.schema h.opened h.seen h.views q.ty w.0 (expr_here w.1.type_at)) e in
+            → AnswersAll l (next + 1) params (Some s) → x ≡ get_or (pool_words l) next 0 → Added i → Left (i + 1) s.next names' words' lens'
+        go_o [] w c large makes a g f = absurd (omega arith)
+        go_o (q ∷ qs) w c large makes a g f =
+            let k = taken l.names.rows w.0 s (substitute_type h.schema h.seen q.ty) (a h.schema h.opened h.seen h.views q.ty w.0 (expr_here w.1.type_at)) in
             let p : Param ResolvedType = record { name = q.name; ty = k.t } in
             record {
               made = v.made ++ (p ∷ []);
@@ -94,24 +93,24 @@ module _ {l : Layout} {params : List ℕ} {at : ℕ} (h : ParamsHere l params at
             }
 
         -- it is entered
-        pub turn_goes : (j : ℕ) → AnswersAll l (next + 1) params s → s.ok ≡ true → x ≡ get_or (pool_words l) next 0 → Added j → j ≡ i → Left (i + 1) s.next names' words' lens'
-        turn_goes j a e g f q = go_o v.left v.row v.count v.large v.makes a e g (subst (λ (k : ℕ). Added k) q f)
+        pub turn_goes : (j : ℕ) → AnswersAll l (next + 1) params (Some s) → x ≡ get_or (pool_words l) next 0 → Added j → j ≡ i → Left (i + 1) s.next names' words' lens'
+        turn_goes j a g f q = go_o v.left v.row v.count v.large v.makes a g (subst (λ (k : ℕ). Added k) q f)
 
-    abbrev End : Type 0
-    End = EnteredSays l.names.rows Whole h.behind names words lens (record { ok = true; count = i; next = next })
+    module _ (n : ℕ) (all : n ≡ i) where
+      abbrev End : Type 0
+      End = EnteredSays l.names.rows Whole h.behind names words lens (Some (record { count = n; next = next }))
 
-    end_o : (left : List (Param TypeExpr)) → Row (ParamStands l) left next h.behind → length left ≡ 0
-        → ((w : ℕ) (ts : List (Param ResolvedType)) → resolve_params h.schema h.seen left ≡ done w ts → (u : ℕ) × (Whole ≡ done u (v.made ++ ts))) → End
-    end_o (q ∷ qs) w z makes = absurd (omega arith)
-    end_o [] w z makes =
-        let m = makes 0 [] (resolve_none h.schema h.seen) in
-        says_done (m.1 ∙ ap (λ (ps : List (Param ResolvedType)). done m.0 ps) (append-nil v.made)) (record {
-          ok = refl;
-          count = omega (arith, counted l.names.rows names words lens i 0 v.made v.table);
-          next = w;
-          table = v.table;
-        })
+      end_o : (left : List (Param TypeExpr)) → Row (ParamStands l) left next h.behind → length left ≡ 0
+          → ((w : ℕ) (ts : List (Param ResolvedType)) → resolve_params h.schema h.seen left ≡ done w ts → (u : ℕ) × (Whole ≡ done u (v.made ++ ts))) → End
+      end_o (q ∷ qs) w z makes = absurd (omega arith)
+      end_o [] w z makes =
+          let m = makes 0 [] (resolve_none h.schema h.seen) in
+          says_done (m.1 ∙ ap (λ (ps : List (Param ResolvedType)). done m.0 ps) (append-nil v.made)) (record {
+            count = omega (arith, all, counted l.names.rows names words lens i 0 v.made v.table);
+            next = w;
+            table = subst (λ (k : ℕ). Rows l.names.rows names words lens k 0 v.made) (sym all) v.table;
+          })
 
-    -- none is left
-    pub ended : length h.tree ≤ i → End
-    ended b = end_o v.left v.row (omega (arith, v.count)) v.makes
+      -- none is left
+      pub ended : length h.tree ≤ i → End
+      ended b = end_o v.left v.row (omega (arith, v.count)) v.makes

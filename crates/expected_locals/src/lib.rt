@@ -18,23 +18,21 @@ use rules::bounds::LOCAL_ROWS;
 use rules::ids::NameId;
 use type_words::{HeldType, MaybeType};
 
-// Whether the parameters keep the bounds; then how many they are, and the place behind them in the pool.
+// How many parameters there are, and the place behind them in the pool.
 #[derive(Clone, Copy)]
 pub struct Entered {
-    pub ok: bool,
     pub count: usize,
     pub next: usize,
 }
 
-// Whether the return keeps the bounds; then its type or none, and the place behind it in the pool.
+// The return's type or none, and the place behind it in the pool.
 #[derive(Clone, Copy)]
 pub struct Returned {
-    pub ok: bool,
     pub ty: MaybeType,
     pub next: usize,
 }
 
-// A trait function's parameters, substituted: a row of the table for each.
+// A trait function's parameters, substituted: a row of the table for each. None where one passes a bound.
 pub fn enter_params(
     l: &Layout,
     at: usize,
@@ -42,34 +40,21 @@ pub fn enter_params(
     names: &mut [u32],
     words: &mut [u32],
     lens: &mut [u32],
-) -> Entered
+) -> Option<Entered>
     requires { Cut l.now × ParamsHere l.now params.now at × (64 ≤ length names.old) × (4096 ≤ length words.old) × (64 ≤ length lens.old) }
     ensures { EntersParams l.now at params.now names.new words.new lens.new result }
 {
     let pool = l.pool;
     let count = image_words::section_word(pool, at) as usize;
     let mut next = at + 1;
-    let mut i = 0;
-    while i < count {
-        let s = subst::whole::substitute(l, next + 1, params);
-        if !s.ok {
-            return Entered {
-                ok: false,
-                count: 0,
-                next: 0,
-            };
-        }
+    for i in 0..count {
+        let s = subst::whole::substitute(l, next + 1, params)?;
         let ty = s.ty;
         let name = NameId(image_words::section_word(pool, next));
         locals::add_local(names, words, lens, i, name, ty);
         next = s.next;
-        i += 1;
     }
-    Entered {
-        ok: true,
-        count: i,
-        next,
-    }
+    Some(Entered { count, next })
 }
 
 // A type as a return: Void is none.
@@ -77,41 +62,32 @@ fn as_return(ty: HeldType, next: usize) -> Returned
     ensures { (rows : ℕ) (t : ResolvedType) → Holds rows ty t → ReturnedDone rows (some t) next result }
 {
     Returned {
-        ok: true,
         ty: type_tests::normalize_return(MaybeType::some(ty)),
         next,
     }
 }
 
-// A trait function's return, substituted: 0 none, 1 a resolved type, 2 a type expression.
-pub fn enter_return(l: &Layout, at: usize, params: &[u32]) -> Returned
+// A trait function's return, substituted: 0 none, 1 a resolved type, 2 a type expression. None where that passes a bound.
+pub fn enter_return(l: &Layout, at: usize, params: &[u32]) -> Option<Returned>
     requires { Cut l.now × ReturnHere l.now params.now at }
     ensures { (h : ReturnHere l.now params.now at) → ReturnedSays l.now.names.rows (resolve_return h.schema h.seen h.tree) h.behind result }
 {
     let pool = l.pool;
     let form = image_words::section_word(pool, at);
     if form == 0 {
-        return Returned {
-            ok: true,
+        return Some(Returned {
             ty: MaybeType::none(),
             next: at + 1,
-        };
+        });
     }
     if form == 1 {
         let h = type_from_pool::hold_type(l, at + 1);
         let ty = h.ty;
-        return as_return(ty, h.next);
+        return Some(as_return(ty, h.next));
     }
-    let s = subst::whole::substitute(l, at + 1, params);
-    if !s.ok {
-        return Returned {
-            ok: false,
-            ty: MaybeType::none(),
-            next: 0,
-        };
-    }
+    let s = subst::whole::substitute(l, at + 1, params)?;
     let ty = s.ty;
-    as_return(ty, s.next)
+    Some(as_return(ty, s.next))
 }
 
 // A row's name, and its type's words.
@@ -152,10 +128,8 @@ fn put_params(
         return to;
     }
     let mut next = write_words::put(out, limit, to, count as u32);
-    let mut i = 0;
-    while i < count {
+    for i in 0..count {
         next = put_param(names, words, lens, i, out, limit, next);
-        i += 1;
     }
     next
 }

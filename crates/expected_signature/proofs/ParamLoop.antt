@@ -6,6 +6,7 @@ use mathlib.Core.List.{List, [], ◌∷◌, ◌++◌, append-nil, append_assoc}
 use native.Mathlib.Omega.{arith}
 use native.Mathlib.Nat.{zero-add, add-zero, add_assoc}
 use lib.ListN.{length, get_or, length-append}
+use Rattle.std.specs.Prelude.{Option, Some, None}
 use Rattle.rules.specs.Syntax.{ResolvedType, TypeExpr, CompiledSchema, Param}
 use Rattle.rules.specs.Types.{contains_poison}
 use Rattle.rules.specs.Substitute.{Counted, too_large, done, after, substitute_type}
@@ -127,26 +128,24 @@ module _ {l : Layout} {params : List ℕ} {at : ℕ} (h : ParamsHere l params at
       turn_here = here_o v.left v.row (omega (arith, v.count))
 
       -- what is said of it
-      abbrev Said : List ℕ → Part → Type 0
+      abbrev Said : List ℕ → Option Part → Type 0
       Said newer r = (k : ParamHere l params next) → PartSays param_words poisoned_param (resolve_param k.schema k.seen k.tree) k.behind place new newer r
 
-      stop_o : (left : List (Param TypeExpr)) → Row (ParamStands l) left next h.behind → 0 < length left → {newer : List ℕ} {r : Part} → Said newer r → r.ok ≡ false
-          → resolve_params h.schema h.seen left ≡ too_large
-      stop_o [] w b p e = absurd (omega arith)
-      stop_o (q ∷ qs) w b p e = params_large h.schema h.seen q qs
-          (part_large (p (record { schema = h.schema; opened = h.opened; seen = h.seen; views = h.views; tree = q; behind = w.0; stands = w.1 })) e)
+      stop_o : (left : List (Param TypeExpr)) → Row (ParamStands l) left next h.behind → 0 < length left → {newer : List ℕ} → Said newer None → resolve_params h.schema h.seen left ≡ too_large
+      stop_o [] w b p = absurd (omega arith)
+      stop_o (q ∷ qs) w b p = params_large h.schema h.seen q qs
+          (part_large (p (record { schema = h.schema; opened = h.opened; seen = h.seen; views = h.views; tree = q; behind = w.0; stands = w.1 })))
 
-      pub turn_stops : {newer : List ℕ} {r : Part} → Said newer r → r.ok ≡ false → {to : ℕ} {first : List ℕ}
-          → PartSays (listed param_words) poisoned_params (resolve_params h.schema h.seen h.tree) h.behind to first newer r
-      turn_stops p e =
-          says_large (v.so ∙ prepend_large visits v.made _ (stop_o v.left v.row (omega (arith, v.count)) p e)) e
+      pub turn_stops : {newer : List ℕ} → Said newer None → {to : ℕ} {first : List ℕ}
+          → PartSays (listed param_words) poisoned_params (resolve_params h.schema h.seen h.tree) h.behind to first newer None
+      turn_stops p = says_large (v.so ∙ prepend_large visits v.made _ (stop_o v.left v.row (omega (arith, v.count)) p))
 
       more_o' : (left : List (Param TypeExpr)) → Row (ParamStands l) left next h.behind → i + length left ≡ length h.tree
           → resolve_params h.schema h.seen h.tree ≡ prepend visits v.made (resolve_params h.schema h.seen left)
-          → {newer : List ℕ} {r : Part} → Said newer r → r.ok ≡ true → Left (i + 1) r.next r.to (visits + r.visits) (poisoned || r.poisoned) newer
-      more_o' [] w c s p e = absurd (omega arith)
-      more_o' (q ∷ qs) w c s {newer} {r} p e =
-          let m = made (p (record { schema = h.schema; opened = h.opened; seen = h.seen; views = h.views; tree = q; behind = w.0; stands = w.1 })) e in
+          → {newer : List ℕ} {r : Part} → Said newer (Some r) → Left (i + 1) r.next r.to (visits + r.visits) (poisoned || r.poisoned) newer
+      more_o' [] w c s p = absurd (omega arith)
+      more_o' (q ∷ qs) w c s {newer} {r} p =
+          let m = made (p (record { schema = h.schema; opened = h.opened; seen = h.seen; views = h.views; tree = q; behind = w.0; stands = w.1 })) in
           let z = (param_small h.schema h.seen q).holds m.v m.a m.is in
           let d : each param_words (v.made ++ (m.a ∷ [])) ≡ each param_words v.made ++ param_words m.a = each_snoc param_words v.made m.a in
           record {
@@ -163,21 +162,20 @@ module _ {l : Layout} {params : List ℕ} {at : ℕ} (h : ParamsHere l params at
             writes = writes_same (sym d) (writes_then v.writes m.so.writes);
           }
 
-      pub turn_goes : {newer : List ℕ} {r : Part} → Said newer r → r.ok ≡ true → Left (i + 1) r.next r.to (visits + r.visits) (poisoned || r.poisoned) newer
-      turn_goes p e = more_o' v.left v.row v.count v.so p e
+      pub turn_goes : {newer : List ℕ} {r : Part} → Said newer (Some r) → Left (i + 1) r.next r.to (visits + r.visits) (poisoned || r.poisoned) newer
+      turn_goes p = more_o' v.left v.row v.count v.so p
 
     -- behind their count, written before
     module _ {w to : ℕ} {first : List ℕ} (counts : w ≡ get_or (pool_words l) at 0) (count_written : Writes (w ∷ []) to from first old) where
       abbrev End : Type 0
       End = PartSays (listed param_words) poisoned_params (resolve_params h.schema h.seen h.tree) h.behind to first new
-          (record { ok = true; poisoned = poisoned; next = next; to = place; visits = visits })
+          (Some (record { poisoned = poisoned; next = next; to = place; visits = visits }))
 
       end_o : (left : List (Param TypeExpr)) → Row (ParamStands l) left next h.behind → length left ≡ 0
           → resolve_params h.schema h.seen h.tree ≡ prepend visits v.made (resolve_params h.schema h.seen left) → w ≡ length v.made → End
       unfolding listed
       end_o (q ∷ qs) r z s c = absurd (omega arith)
       end_o [] r z s c = says_done (s ∙ prepend_end h.schema h.seen visits v.made) (record {
-        ok = refl;
         visits = refl;
         next = r;
         poison = v.poison;

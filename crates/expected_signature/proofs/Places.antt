@@ -1,13 +1,13 @@
 -- Places of the pool are small, and what `substitute` says of an expression that stands there. Assumes nothing.
 use Prim.Native.Nat.{ℕ, ◌<◌}
-use mathlib.Core.Path.{◌≡◌, refl, sym, ◌∙◌}
-use mathlib.Core.Bool.{true, false}
+use mathlib.Core.Path.{◌≡◌, refl}
 use mathlib.Core.List.{List}
 use native.Mathlib.Omega.{arith}
 use lib.ListN.{length}
 use Rattle.rules.specs.Syntax.{ResolvedType, TypeExpr}
 use Rattle.rules.specs.Substitute.{Counted, too_large, done}
-use Rattle.image_words.proofs.Steps.{true_false}
+use Rattle.std.specs.Prelude.{Some, None}
+use Rattle.rules.proofs.Clash.{clash}
 use Rattle.image_layout.specs.declared.Layout.{Layout}
 use Rattle.image_layout.specs.Rows.{Inside}
 use Rattle.image_layout.specs.Open.{pool_words}
@@ -23,12 +23,12 @@ pool_small i h = omega (arith, i.pool)
 pub expr_here : {names : ℕ} {ws : List ℕ} {e : TypeExpr} {at n : ℕ} → TypeExprStands names ws e at n → ExprStands names ws e at n
 expr_here h = record { run_at = h.words_at; stored = h.good }
 
-module _ (names n : ℕ) (s : Substituted) where
-  pub is_large : (o : Counted ResolvedType) → Answers names n o s → s.ok ≡ false → o ≡ too_large
-  is_large too_large a e = refl
-  is_large (done v t) a e = absurd (true_false (sym a.0 ∙ e))
+module _ (names n : ℕ) where
+  pub is_large : (o : Counted ResolvedType) → Answers names n o None → o ≡ too_large
+  is_large too_large a = refl
+  is_large (done v t) a = absurd a
 
-  pub record Taken (o : Counted ResolvedType) : Type 0 where
+  pub record Taken (s : Substituted) (o : Counted ResolvedType) : Type 0 where
     pub v : ℕ
     pub t : ResolvedType
     pub is : o ≡ done v t
@@ -36,6 +36,6 @@ module _ (names n : ℕ) (s : Substituted) where
     pub next : s.next ≡ n
     pub holds : Holds names s.ty t
 
-  pub taken : (o : Counted ResolvedType) → Answers names n o s → s.ok ≡ true → Taken o
-  taken too_large a e = absurd (true_false (sym e ∙ a))
-  taken (done v t) a e = record { v = v; t = t; is = refl; visits = a.1; next = a.2; holds = a.3 }
+  pub taken : (s : Substituted) (o : Counted ResolvedType) → Answers names n o (Some s) → Taken s o
+  taken s too_large a = clash (cc)
+  taken s (done v t) a = record { v = v; t = t; is = refl; visits = a.0; next = a.1; holds = a.2 }

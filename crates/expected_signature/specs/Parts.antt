@@ -1,6 +1,6 @@
--- What a part of a signature comes to: too large, or its visits, and its words written.
-use Rattle.std.specs.Prelude.{ℕ, ◌≡◌, Bool, true, false, ◌||◌, List}
-use Rattle.std.proofs.Math.Option.{Option}
+-- What a part of a signature comes to: nothing where it is too large, or its visits, and its words written.
+use Rattle.std.specs.Prelude.{ℕ, ◌≡◌, Bool, ◌||◌, List, Option, None, IsSomeAnd}
+use Rattle.std.proofs.Math.Option.{Option as Maybe}
 use Rattle.rules.specs.Syntax.{ResolvedType, TypeExpr, CompiledSchema, Param}
 use Rattle.rules.specs.Types.{contains_poison, normalize_return, return_words}
 use Rattle.rules.specs.Substitute.{Counted, too_large, done, after, substitute_type}
@@ -12,18 +12,17 @@ use Rattle.expected_signature.specs.declared.part.Part.{Part}
 -- over the words of a part, and whether poison is in it
 module _ {A : Type 0} (words : A → List ℕ) (poisoned : A → Bool) where
   pub record PartDone (v : ℕ) (a : A) (behind to : ℕ) (old new : List ℕ) (r : Part) : Type 0 where
-    pub ok : r.ok ≡ true
     pub visits : r.visits ≡ v
     pub next : r.next ≡ behind
     pub poison : r.poisoned ≡ poisoned a
     pub writes : Writes (words a) to r.to old new
 
-  abbrev pub PartAgrees : Counted A → ℕ → ℕ → List ℕ → List ℕ → Part → Type 0
-  PartAgrees too_large behind to old new r = r.ok ≡ false
-  PartAgrees (done v a) behind to old new r = PartDone v a behind to old new r
+  abbrev pub PartAgrees : Counted A → ℕ → ℕ → List ℕ → List ℕ → Option Part → Type 0
+  PartAgrees too_large behind to old new r = r ≡ None
+  PartAgrees (done v a) behind to old new r = IsSomeAnd r (λ p. PartDone v a behind to old new p)
 
   -- r says a part that ends before `behind`, and writes its words from `to` on
-  pub record PartSays (o : Counted A) (behind to : ℕ) (old new : List ℕ) (r : Part) : Type 0 where
+  pub record PartSays (o : Counted A) (behind to : ℕ) (old new : List ℕ) (r : Option Part) : Type 0 where
     pub is : PartAgrees o behind to old new r
 
 -- a type under a name
@@ -38,10 +37,10 @@ abbrev pub poisoned_param : Param ResolvedType → Bool
 poisoned_param p = contains_poison p.ty
 
 -- a return, Void as none
-abbrev pub normal_words : Option ResolvedType → List ℕ
+abbrev pub normal_words : Maybe ResolvedType → List ℕ
 normal_words t = return_words (normalize_return t)
 
-abbrev pub normal_poisoned : Option ResolvedType → Bool
+abbrev pub normal_poisoned : Maybe ResolvedType → Bool
 normal_poisoned t = poisoned_return (normalize_return t)
 
 -- a signature

@@ -21,7 +21,6 @@ fn put_return(out: &mut [u8], to: usize, t: MaybeType, next: usize, visits: u32)
     if !n.some {
         let end = answers::output::put(out, to, 0);
         return Part {
-            ok: true,
             poisoned: false,
             next,
             to: end,
@@ -32,7 +31,6 @@ fn put_return(out: &mut [u8], to: usize, t: MaybeType, next: usize, visits: u32)
     let a = answers::output::put(out, to, 1);
     let b = answers::output::put_type(out, a, ty);
     Part {
-        ok: true,
         poisoned: type_poison::contains_poison(ty),
         next,
         to: b,
@@ -40,25 +38,28 @@ fn put_return(out: &mut [u8], to: usize, t: MaybeType, next: usize, visits: u32)
     }
 }
 
-// 0 none, 1 a resolved type, which takes no visit, 2 a type expression.
-pub fn resolve_return(l: &Layout, at: usize, params: &[u32], out: &mut [u8], to: usize) -> Part
+// 0 none, 1 a resolved type, which takes no visit, 2 a type expression; None where that passes a bound.
+pub fn resolve_return(
+    l: &Layout,
+    at: usize,
+    params: &[u32],
+    out: &mut [u8],
+    to: usize,
+) -> Option<Part>
     requires { Cut l.now × ReturnHere l.now params.now at × (to ≤ 800000000) }
     ensures { ResolvesReturn l.now at params.now out.old out.new to result }
 {
     let pool = l.pool;
     let form = image_words::section_word(pool, at);
     if form == 0 {
-        return put_return(out, to, MaybeType::none(), at + 1, 0);
+        return Some(put_return(out, to, MaybeType::none(), at + 1, 0));
     }
     if form == 1 {
         let h = type_from_pool::hold_type(l, at + 1);
         let ty = h.ty;
-        return put_return(out, to, MaybeType::some(ty), h.next, 0);
+        return Some(put_return(out, to, MaybeType::some(ty), h.next, 0));
     }
-    let s = subst::whole::substitute(l, at + 1, params);
-    if !s.ok {
-        return crate::part::too_large();
-    }
+    let s = subst::whole::substitute(l, at + 1, params)?;
     let ty = s.ty;
-    put_return(out, to, MaybeType::some(ty), s.next, s.visits)
+    Some(put_return(out, to, MaybeType::some(ty), s.next, s.visits))
 }

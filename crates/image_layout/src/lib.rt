@@ -2,7 +2,7 @@
 #![tactic(auto)]
 
 ghost use Rattle.std.specs.Prelude.{◌≡◌};
-ghost use Rattle.image_layout.specs.Rows.{Inside, Fits, row_word, IsNameRow, IsStringRow, IsDefinitionRow};
+ghost use Rattle.image_layout.specs.Rows.{row_word, IsNameRow, IsStringRow, IsDefinitionRow};
 
 use rules::ids::{NameId, TypeId};
 use rules::kinds::DefinitionKind;
@@ -54,7 +54,6 @@ pub struct DefinitionRow {
 
 // Word k of row i; 0 past the rows.
 fn word_of_row(t: &Table, i: u32, k: usize) -> u32
-    requires { Fits t.now }
     ensures { result ≡ row_word t.now i k }
 {
     if t.rows <= i {
@@ -63,11 +62,12 @@ fn word_of_row(t: &Table, i: u32, k: usize) -> u32
     if t.width <= k {
         return 0;
     }
-    image_words::section_word(t.words, t.width * (i as usize) + k)
+    // Past the greatest number stands no word.
+    let at = t.width.saturating_mul(i as usize).saturating_add(k);
+    image_words::section_word(t.words, at)
 }
 
 pub fn name_row(l: &Layout, x: NameId) -> NameRow
-    requires { Inside l.now }
     ensures { IsNameRow l.now x.0 result }
 {
     let t = &l.names;
@@ -81,7 +81,6 @@ pub fn name_row(l: &Layout, x: NameId) -> NameRow
 }
 
 pub fn string_row(l: &Layout, i: u32) -> StringRow
-    requires { Inside l.now }
     ensures { IsStringRow l.now i result }
 {
     let t = &l.strings;
@@ -92,7 +91,6 @@ pub fn string_row(l: &Layout, i: u32) -> StringRow
 }
 
 pub fn definition_row(l: &Layout, d: TypeId) -> DefinitionRow
-    requires { Inside l.now }
     ensures { IsDefinitionRow l.now d.0 result }
 {
     let t = &l.definitions;

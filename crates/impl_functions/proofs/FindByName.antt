@@ -1,45 +1,67 @@
 -- A search for a function by its name. Assumes nothing.
-use Prim.Native.Nat.{ℕ, ◌+◌, ◌<◌, ◌≤◌}
-use mathlib.Core.Path.{◌≡◌, refl, sym, ap, subst, ◌∙◌}
+use Prim.Native.Nat.{ℕ, zero, suc, ◌<◌}
+use mathlib.Core.Path.{◌≡◌, refl, sym, ap, subst}
 use mathlib.Core.Bool.{true, false}
-use mathlib.Core.List.{List, ◌∷◌}
-use mathlib.Core.Option.{Option, some}
-use lib.ListN.{length, get_or}
+use mathlib.Core.List.{List, [], ◌∷◌}
+use mathlib.Core.Option.{Option as Maybe, none, some}
+use native.Mathlib.Omega.{arith}
+use lib.ListN.{length}
 use borrow.Author.Tests.{eq-eqb, ne_eqb}
+use Rattle.std.specs.Prelude.{Option, Some, None, MatchOption}
+use Rattle.std.specs.List.{AllWithin, HoldsAt}
 use Rattle.rules.specs.Syntax.{ImplFnDef}
 use Rattle.rules.specs.Project.{find_function}
 use Rattle.image_layout.specs.declared.Layout.{Layout}
-use Rattle.impl_rows.specs.declared.find.Found.{Found}
 use Rattle.impl_rows.specs.Found.{Agrees, Finds}
-use Rattle.impl_functions.specs.Functions.{FunctionHere}
-use Rattle.impl_functions.proofs.PlaceTable.{Rest, turned, ended, passed}
+use Rattle.impl_functions.specs.Functions.{FunctionHere, Placed}
 
 -- the first one has the name, or the others decide
 find_head : (x : ℕ) (f : ImplFnDef) (fs : List ImplFnDef) → x ≡ f.name → find_function x (f ∷ fs) ≡ some f
 unfolding find_function
-find_head x f fs e = ap {B = Option ImplFnDef} (λ b. elim b as (λ _. Option ImplFnDef) [ true ↦ some f | false ↦ find_function x fs ]) (eq-eqb x f.name e)
+find_head x f fs e = ap {B = Maybe ImplFnDef} (λ b. elim b as (λ _. Maybe ImplFnDef) [ true ↦ some f | false ↦ find_function x fs ]) (eq-eqb x f.name e)
 
 find_tail : (x : ℕ) (f : ImplFnDef) (fs : List ImplFnDef) → (x ≡ f.name → ⊥) → find_function x (f ∷ fs) ≡ find_function x fs
 unfolding find_function
-find_tail x f fs e = ap {B = Option ImplFnDef} (λ b. elim b as (λ _. Option ImplFnDef) [ true ↦ some f | false ↦ find_function x fs ]) (ne_eqb x f.name e)
+find_tail x f fs e = ap {B = Maybe ImplFnDef} (λ b. elim b as (λ _. Maybe ImplFnDef) [ true ↦ some f | false ↦ find_function x fs ]) (ne_eqb x f.name e)
 
-module _ (l : Layout) (places : List ℕ) (x : ℕ) (fs : List ImplFnDef) where
-  -- what is found among those that are left is found among all
-  abbrev pub Left : ℕ → Type 0
-  Left = Rest (FunctionHere l) places (λ rest. find_function x rest ≡ find_function x fs)
+find_none : (x : ℕ) → find_function x [] ≡ none
+unfolding find_function
+find_none x = refl
 
-  abbrev FoundHere : Found → Type 0
-  FoundHere = Finds (FunctionHere l) (find_function x fs)
+module _ (l : Layout) (x : ℕ) where
+  -- whether the function at a place has the name
+  abbrev pub Named : ℕ → Type 0
+  Named place = (f : ImplFnDef) (m : ℕ) → FunctionHere l f place m → x ≡ f.name
 
-  module _ {i : ℕ} (w : Left i) where
-    module _ (b : i < length places) {y : ℕ} (named : (f : ImplFnDef) (m : ℕ) → FunctionHere l f (get_or places i 0) m → y ≡ f.name) where
-      pub came : x ≡ y → FoundHere (record { ok = true; start = get_or places i 0 })
-      came e = turned _ _ _ w b (λ f gs m q s _.
-          record { is = subst (λ (o : Option ImplFnDef). Agrees (FunctionHere l) o (record { ok = true; start = get_or places i 0 })) (sym (find_head x f gs (e ∙ named f m q)) ∙ s) (refl, m, q) })
+  abbrev pub Other : ℕ → Type 0
+  Other place = (f : ImplFnDef) (m : ℕ) → FunctionHere l f place m → x ≡ f.name → ⊥
 
-      pub goes : (x ≡ y → ⊥) → Left (i + 1)
-      goes e = turned _ _ _ w b (λ f gs m q s r. passed _ _ _ gs r (sym (find_tail x f gs (λ z. e (z ∙ sym (named f m q)))) ∙ s))
+  abbrev Says : Option ℕ → Maybe ImplFnDef → Type 0
+  Says r o = Agrees (FunctionHere l) o r
 
-    pub nowhere : length places ≤ i → FoundHere (record { ok = false; start = 0 })
-    unfolding find_function
-    nowhere b = record { is = subst (λ (o : Option ImplFnDef). Agrees (FunctionHere l) o (record { ok = false; start = 0 })) (ended _ _ _ w b) refl }
+  first : (fs : List ImplFnDef) (places : List ℕ) (p i : ℕ) → Placed l fs places → i < length places → HoldsAt (λ y. y ≡ p) places i → Named p → AllWithin Other places 0 i
+      → Says (Some p) (find_function x fs)
+  first [] [] p i e b a h m = absurd (omega arith)
+  first [] (q ∷ ps) p i e b a h m = absurd e
+  first (f ∷ fs) [] p i e b a h m = absurd e
+  first (f ∷ fs) (q ∷ ps) p zero e b a h m =
+      let k = subst (λ (y : ℕ). FunctionHere l f y e.0) (a 0) e.1 in
+      subst (Says (Some p)) (sym (find_head x f fs (h f e.0 k))) (e.0, k)
+  first (f ∷ fs) (q ∷ ps) p (suc i) e b a h m =
+      subst (Says (Some p)) (sym (find_tail x f fs (m 0 0 (omega arith) (omega arith) f e.0 e.1)))
+      (first fs ps p i e.2 (omega arith) (λ d. a d) h (λ k d low high. m (suc k) d (omega arith) (omega arith)))
+
+  nowhere : (fs : List ImplFnDef) (places : List ℕ) → Placed l fs places → AllWithin Other places 0 (length places) → Says None (find_function x fs)
+  nowhere [] [] e m = subst (Says None) (sym (find_none x)) refl
+  nowhere [] (q ∷ ps) e m = absurd e
+  nowhere (f ∷ fs) [] e m = absurd e
+  nowhere (f ∷ fs) (q ∷ ps) e m =
+      subst (Says None) (sym (find_tail x f fs (m 0 0 (omega arith) (omega arith) f e.0 e.1)))
+      (nowhere fs ps e.2 (λ k d low high. m (suc k) d (omega arith) (omega arith)))
+
+  -- what a search along the places finds
+  pub finds : (places : List ℕ) (r : Option ℕ)
+      → MatchOption r (AllWithin Other places 0 (length places)) (λ p. Named p × (i : ℕ) × (i < length places) × HoldsAt (λ y. y ≡ p) places i × AllWithin Other places 0 i)
+      → (fs : List ImplFnDef) → Placed l fs places → Finds (FunctionHere l) (find_function x fs) r
+  finds places None m fs e = record { is = nowhere fs places e m }
+  finds places (Some p) m fs e = record { is = first fs places p m.1 e m.2 m.3 m.0 m.4 }

@@ -5,6 +5,7 @@ use mathlib.Core.List.{List, ◌∷◌, ◌++◌, append-nil, map}
 use native.Mathlib.Omega.{arith}
 use lib.ListN.{length, get_or, take, set}
 use lib.Seq.{append_snoc}
+use Rattle.std.proofs.lemmas.List.{take-append-le}
 use Rattle.rules.specs.Syntax.{ImplFnDef, TraitFnDef}
 use Rattle.image_layout.specs.declared.Layout.{Layout}
 use Rattle.pool_traits.specs.Different.{names_of}
@@ -30,6 +31,10 @@ module _ (l : Layout) where
 
     pub all_named : count ≤ i → count ≡ length ts → take (length ts) table ≡ names_of ts
     all_named b c = let e = walk.ended _ _ w b in ap (λ (k : ℕ). take k table) (sym (e.0 ∙ c)) ∙ sym (append-nil (take i table)) ∙ e.1
+
+    -- the table stands in front of other words
+    pub all_filled : count ≤ i → count ≡ length ts → length table ≡ count → (behind : List ℕ) → take (length ts) (table ++ behind) ≡ names_of ts
+    all_filled b c e behind = take-append-le (length ts) table behind (omega (arith, c, e)) ∙ all_named b c
 
   -- the names of an implementation's functions, those that are left behind those in the table
   abbrev pub OwnNames : List ImplFnDef → List ℕ → List ℕ → ℕ → Type 0

@@ -2,9 +2,11 @@
 use Prim.Native.Nat.{ℕ, ◌+◌, ◌<◌, ◌≤◌}
 use mathlib.Core.Path.{◌≡◌, sym, ap, subst, ◌∙◌}
 use mathlib.Core.List.{List, [], ◌∷◌, ◌++◌, append-nil}
+use native.Mathlib.Omega.{arith}
 use native.Mathlib.Numerals.{add-one}
 use lib.ListN.{length, get_or, take, drop, set, drop_of_length-le}
 use lib.Seq.{append_snoc, drop-cons}
+use Rattle.std.proofs.lemmas.List.{take-append-le}
 use Rattle.pool_traits.proofs.Different.{take_more}
 use Rattle.impl_functions.specs.Functions.{EachAt}
 use Rattle.impl_functions.proofs.Walk as walk
@@ -26,6 +28,10 @@ module _ {A : Type 0} (Q : A → ℕ → ℕ → Type 0) where
     pub all_placed : count ≤ i → count ≡ length xs → EachAt Q xs (take (length xs) table)
     all_placed b c = let e = walk.ended _ _ w b in
         subst (λ (k : ℕ). EachAt Q xs (take k table)) (e.0 ∙ c) (subst (EachAt Q xs) (append-nil (take i table)) (e.1 [] tt))
+
+    -- the table stands in front of other words
+    pub all_filled : count ≤ i → count ≡ length xs → length table ≡ count → (behind : List ℕ) → EachAt Q xs (take (length xs) (table ++ behind))
+    all_filled b c e behind = subst (EachAt Q xs) (sym (take-append-le (length xs) table behind (omega (arith, c, e)))) (all_placed b c)
 
   -- over the places, and what is so of those that are left
   module _ (places : List ℕ) (So : List A → Type 0) where

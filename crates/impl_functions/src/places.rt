@@ -1,7 +1,6 @@
 // The names of functions in the pool, and the places behind functions.
 ghost use Rattle.std.specs.Prelude.{◌≡◌, ℕ};
 ghost use Rattle.rules.specs.Syntax.{ImplFnDef, TraitFnDef};
-ghost use Rattle.image_layout.specs.Rows.{Inside};
 ghost use Rattle.impl_functions.specs.Functions.{FunctionHere, AskedHere};
 
 use image_layout::Layout;
@@ -9,7 +8,6 @@ use rules::ids::NameId;
 
 // The name that starts a function, a trait's or an implementation's.
 pub fn name_at(l: &Layout, at: usize) -> NameId
-    requires { Inside l.now }
     ensures own { (f : ImplFnDef) (n : ℕ) → FunctionHere l.now f at n → result.0 ≡ f.name }
     ensures asked { (f : TraitFnDef) (n : ℕ) → AskedHere l.now f at n → result.0 ≡ f.name }
 {
@@ -19,7 +17,6 @@ pub fn name_at(l: &Layout, at: usize) -> NameId
 
 // The place behind an implementation's function.
 pub fn after_function(l: &Layout, at: usize) -> usize
-    requires { Inside l.now }
     ensures { (f : ImplFnDef) (n : ℕ) → FunctionHere l.now f at n → result ≡ n }
 {
     let pool = l.pool;
@@ -28,7 +25,6 @@ pub fn after_function(l: &Layout, at: usize) -> usize
 
 // The place behind a trait's function.
 pub fn after_asked(l: &Layout, at: usize) -> usize
-    requires { Inside l.now }
     ensures { (f : TraitFnDef) (n : ℕ) → AskedHere l.now f at n → result ≡ n }
 {
     let pool = l.pool;

@@ -4,7 +4,6 @@
 ghost use Rattle.std.specs.Prelude.{◌≡◌};
 ghost use Rattle.rules.specs.Syntax.{CompiledSchema};
 ghost use Rattle.rules.specs.Projone.{lowest_from, lowest_implementation};
-ghost use Rattle.image_layout.specs.Rows.{Inside};
 ghost use Rattle.image_layout.specs.Open.{Open};
 
 use image_layout::Layout;
@@ -12,19 +11,11 @@ use rules::ids::TypeId;
 
 // The first row of an implementation; 0 if there is none.
 fn lowest_row(l: &Layout) -> TypeId
-    requires { Inside l.now }
     ensures { (s : CompiledSchema) → Open l.now s → result.0 ≡ lowest_from 0 s.definitions }
 {
-    let rows = l.definitions.rows;
-    let mut row: u32 = 0;
-    while row < rows {
-        let found = impl_rows::find::find_implementation(l, TypeId(row));
-        if found.ok {
-            return TypeId(row);
-        }
-        row += 1;
-    }
-    TypeId(0)
+    let mut rows = 0..l.definitions.rows;
+    let first = rows.find(|&row| impl_rows::find::find_implementation(l, TypeId(row)).is_some());
+    TypeId(first.unwrap_or(0))
 }
 
 // 0 also where the image is not readable.

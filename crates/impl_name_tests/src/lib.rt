@@ -4,7 +4,6 @@
 pub mod repeats;
 pub mod strangers;
 
-ghost use Rattle.image_layout.specs.Rows.{Inside};
 ghost use Rattle.impl_name_tests.specs.Clauses.{TellsNames};
 
 use answers::answer::Outcome;
@@ -12,7 +11,6 @@ use image_layout::Layout;
 
 // Of the functions at these places, with their names beside. Both are asked, and then their order tells.
 pub fn check_names(l: &Layout, trait_at: usize, places: &[usize], names: &[u32]) -> Outcome
-    requires { Inside l.now }
     ensures { TellsNames l.now trait_at places.now names.now result }
 {
     let repeats = repeats::no_repeat(names);

@@ -12,13 +12,11 @@ use rules::ids::NameId;
 pub fn no_repeat(names: &[u32]) -> Outcome
     ensures { (fs : List ImplFnDef) → names.now ≡ map (λ f. f.name) fs → Passes (no_repeat [] fs) result }
 {
-    let mut i = 0;
-    while i < names.len() {
-        let name = NameId(names[i]);
+    for (i, &name) in names.iter().enumerate() {
+        let name = NameId(name);
         if pool_traits::listed(&names[..i], name) {
             return answers::answer::refused(Refusal::at(9, name));
         }
-        i += 1;
     }
     answers::answer::accepted(0, 0)
 }

@@ -1,8 +1,8 @@
 -- An implementation and a trait by their rows, and what was found of them. Assumes nothing.
 use Prim.Native.Nat.{ℕ, ◌+◌}
 use mathlib.Core.Path.{◌≡◌, refl, sym, ap, subst, ◌∙◌}
-use mathlib.Core.List.{List}
 use mathlib.Core.Option.{Option, none, some}
+use Rattle.std.specs.Prelude.{Ok, Err}
 use Rattle.rules.specs.Words.{NONE}
 use Rattle.rules.specs.Syntax.{ResolvedType, TraitDef, ImplDef, CompiledSchema}
 use Rattle.rules.specs.Options.{then}
@@ -14,11 +14,11 @@ use Rattle.image_words.specs.Gives.{Counted}
 use Rattle.image_layout.specs.declared.Layout.{Layout}
 use Rattle.image_layout.specs.Open.{Open, pool_words}
 use Rattle.pool_types.specs.TypeAt.{TypeAt, TypeStands}
-use Rattle.impl_rows.specs.declared.find.Found as row
 use Rattle.impl_rows.specs.Found.{ImplHere, TraitHere}
 use Rattle.impl_rows.proofs.Has.{Has}
 use Rattle.impl_trait.specs.declared.Subject.{Subject}
-use Rattle.impl_trait.specs.Subjects.{subject, Stand, Agrees, Finds, About}
+use Rattle.impl_trait.specs.declared.NoSubject.{NoSubject}
+use Rattle.impl_trait.specs.Subjects.{number_of, name_of, subject, Stand, Agrees, Finds, About}
 
 module _ (row : ℕ) (s : CompiledSchema) where
   abbrev trait_of : ImplDef → Option TraitDef → Result (ImplDef × TraitDef)
@@ -50,16 +50,16 @@ module _ (row : ℕ) (s : CompiledSchema) where
     unfolding or_refuse ◌>>=◌
     both f = by_trait f
 
-module _ {l : Layout} {found : Result (ImplDef × TraitDef)} {r : Subject} where
-  pub lacking : {e : Refusal} → found ≡ err e → (r.number ≡ 0 → ⊥) → with_name r.number NONE r.name.0 ≡ e → (r.start ≡ 0) × (r.target ≡ 0) × (r.types ≡ 0) → Finds l found r
-  lacking q n f z = record { is = subst (λ (x : Result (ImplDef × TraitDef)). Agrees l x r) (sym q) (n, f, z.0, z.1, z.2) }
+module _ {l : Layout} {found : Result (ImplDef × TraitDef)} where
+  pub lacking : {e : Refusal} {n : NoSubject} → found ≡ err e → with_name (number_of n) NONE (name_of n) ≡ e → Finds l found (Err n)
+  lacking {e} {n} q f = record { is = subst (λ (x : Result (ImplDef × TraitDef)). Agrees l x (Err n)) (sym q) f }
 
-  pub standing : {i : ImplDef} {t : TraitDef} → found ≡ ok (i, t) → r.number ≡ 0 → r.name.0 ≡ NONE → Stand l i t r → Finds l found r
-  standing q z x a = record { is = subst (λ (x : Result (ImplDef × TraitDef)). Agrees l x r) (sym q) (z, x, a) }
+  pub standing : {i : ImplDef} {t : TraitDef} {r : Subject} → found ≡ ok (i, t) → Stand l i t r → Finds l found (Ok r)
+  standing {i} {t} {r} q a = record { is = subst (λ (x : Result (ImplDef × TraitDef)). Agrees l x (Ok r)) (sym q) a }
 
 -- the parts of an implementation whose row and whose trait's row were found
-module _ {l : Layout} {f g : row.Found} {x : Option ImplDef} {y : Option TraitDef} (h : Has (ImplHere l) x f) (t : Has (TraitHere l) y g) where
-  pub parts : {r : Subject} → r.start ≡ g.start → r.target ≡ f.start + 1 + 1
+module _ {l : Layout} {f g : ℕ} {x : Option ImplDef} {y : Option TraitDef} (h : Has (ImplHere l) x f) (t : Has (TraitHere l) y g) where
+  pub parts : {r : Subject} → r.start ≡ g → r.target ≡ f + 1 + 1
       → ((ty : ResolvedType) (n : ℕ) → TypeAt l.names.rows (pool_words l) ty r.target n → r.types ≡ n) → Stand l h.a t.a r
   parts {r} e d skips =
       let p = h.stands.parts in
@@ -82,20 +82,20 @@ pub record HasBoth (l : Layout) (found : Result (ImplDef × TraitDef)) (r : Subj
   pub is : found ≡ ok (impl, trait)
   pub stand : Stand l impl trait r
 
-has_o : (l : Layout) (found : Result (ImplDef × TraitDef)) (r : Subject) → Agrees l found r → r.number ≡ 0 → HasBoth l found r
-has_o l (err e) r a z = absurd (a.0 z)
-has_o l (ok p) r a z = record { impl = p.0; trait = p.1; is = refl; stand = a.2 }
+has_o : (l : Layout) (found : Result (ImplDef × TraitDef)) (r : Subject) → Agrees l found (Ok r) → HasBoth l found r
+has_o l (err e) r a = absurd a
+has_o l (ok p) r a = record { impl = p.0; trait = p.1; is = refl; stand = a }
 
-lacks_o : (l : Layout) (found : Result (ImplDef × TraitDef)) (r : Subject) → Agrees l found r → (r.number ≡ 0 → ⊥) → found ≡ err (with_name r.number NONE r.name.0)
-lacks_o l (err e) r a n = ap err (sym a.1)
-lacks_o l (ok p) r a n = absurd (n a.0)
+lacks_o : (l : Layout) (found : Result (ImplDef × TraitDef)) (n : NoSubject) → Agrees l found (Err n) → found ≡ err (with_name (number_of n) NONE (name_of n))
+lacks_o l (err e) n a = ap err (sym a)
+lacks_o l (ok p) n a = absurd a
 
-module _ {l : Layout} {found : Result (ImplDef × TraitDef)} {r : Subject} (f : Finds l found r) where
-  pub has_both : r.number ≡ 0 → HasBoth l found r
-  has_both z = has_o l found r f.is z
+module _ {l : Layout} {found : Result (ImplDef × TraitDef)} where
+  pub has_both : {r : Subject} → Finds l found (Ok r) → HasBoth l found r
+  has_both {r} f = has_o l found r f.is
 
-  pub lacks_both : (r.number ≡ 0 → ⊥) → found ≡ err (with_name r.number NONE r.name.0)
-  lacks_both n = lacks_o l found r f.is n
+  pub lacks_both : {n : NoSubject} → Finds l found (Err n) → found ≡ err (with_name (number_of n) NONE (name_of n))
+  lacks_both {n} f = lacks_o l found n f.is
 
 -- what was found, with the schema that the image opens
 abbrev pub about : {l : Layout} {s : CompiledSchema} → Open l s → {found : Result (ImplDef × TraitDef)} {r : Subject} → HasBoth l found r → About l r

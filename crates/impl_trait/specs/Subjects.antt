@@ -1,8 +1,8 @@
 -- What a call is asked of, by the rules and as the pool holds it.
-use Rattle.std.specs.Prelude.{ℕ, ◌≡◌, List}
+use Rattle.std.specs.Prelude.{ℕ, ◌≡◌, Result, Ok, Err}
 use Rattle.rules.specs.Words.{NONE}
 use Rattle.rules.specs.Syntax.{TraitDef, ImplDef, CompiledSchema}
-use Rattle.rules.specs.Refusal.{Result, ok, err, ◌>>=◌, with_name}
+use Rattle.rules.specs.Refusal.{Result as Checked, ok, err, ◌>>=◌, with_name}
 use Rattle.rules.specs.Signatures.{find_trait}
 use Rattle.rules.specs.Project.{find_implementation}
 use Rattle.image_words.specs.Gives.{Counted}
@@ -12,13 +12,23 @@ use Rattle.pool_types.specs.TypeAt.{TypeStands}
 use Rattle.pool_definitions.specs.DefinitionAt.{FunctionStands}
 use Rattle.impl_rows.specs.Found.{TraitHere}
 use Rattle.impl_trait.specs.declared.Subject.{Subject}
+use Rattle.impl_trait.specs.declared.NoSubject.{NoSubject}
 
 -- the implementation and its trait: 3, then 4
-unfoldable pub subject : ℕ → CompiledSchema → Result (ImplDef × TraitDef)
+unfoldable pub subject : ℕ → CompiledSchema → Checked (ImplDef × TraitDef)
 subject row schema = do
   impl ← find_implementation schema row
   trait ← find_trait schema impl
   ok (impl, trait)
+
+-- 3 and 4, and the name beside each
+abbrev pub number_of : NoSubject → ℕ
+number_of NoSubject.NoImplementation = 3
+number_of (NoSubject.NoTrait name) = 4
+
+abbrev pub name_of : NoSubject → ℕ
+name_of NoSubject.NoImplementation = NONE
+name_of (NoSubject.NoTrait name) = name.0
 
 module _ (l : Layout) where
   -- the trait and the implementation's parts stand from these places on
@@ -32,12 +42,14 @@ module _ (l : Layout) where
     pub functions_end : ℕ
     pub functions_at : Counted (pool_words l) 64 (FunctionStands l.names.rows l.strings.rows (pool_words l)) impl.functions types_end functions_end
 
-  abbrev pub Agrees : Result (ImplDef × TraitDef) → Subject → Type 0
-  Agrees (err e) r = (r.number ≡ 0 → ⊥) × (with_name r.number NONE r.name.0 ≡ e) × (r.start ≡ 0) × (r.target ≡ 0) × (r.types ≡ 0)
-  Agrees (ok p) r = (r.number ≡ 0) × (r.name.0 ≡ NONE) × Stand p.0 p.1 r
+  abbrev pub Agrees : Checked (ImplDef × TraitDef) → Result Subject NoSubject → Type 0
+  Agrees (err e) (Ok f) = ⊥
+  Agrees (err e) (Err n) = with_name (number_of n) NONE (name_of n) ≡ e
+  Agrees (ok p) (Ok f) = Stand p.0 p.1 f
+  Agrees (ok p) (Err n) = ⊥
 
   -- r says what the rules find, and where
-  pub record Finds (found : Result (ImplDef × TraitDef)) (r : Subject) : Type 0 where
+  pub record Finds (found : Checked (ImplDef × TraitDef)) (r : Result Subject NoSubject) : Type 0 where
     pub is : Agrees found r
 
   -- a schema that the image opens, with an implementation and its trait at these places

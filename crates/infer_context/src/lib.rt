@@ -3,7 +3,6 @@
 
 ghost use Rattle.std.specs.Prelude.{◌≡◌, ◌+◌, ◌<◌, length, get_or};
 ghost use Rattle.rules.specs.Kinds.{expr_kind};
-ghost use Rattle.image_layout.specs.Rows.{Inside};
 ghost use Rattle.image_layout.specs.Open.{pool_words};
 ghost use Rattle.infer_context.specs.Stood.{AtExpr};
 ghost use Rattle.infer_context.specs.PlaceKinds.{place_kind};
@@ -52,7 +51,6 @@ pub fn place_kind(k: ExprKind) -> PlaceKind
 
 // The kind of the code at a place.
 pub fn kind_at(l: &Layout, at: usize) -> ExprKind
-    requires { Inside l.now }
     ensures { result ≡ expr_kind (get_or (pool_words l.now) at 0) }
 {
     let pool = l.pool;
@@ -61,7 +59,6 @@ pub fn kind_at(l: &Layout, at: usize) -> ExprKind
 
 // The word behind a code.
 pub fn operand(l: &Layout, at: usize) -> u32
-    requires { Inside l.now }
     ensures { at < length (pool_words l.now) → result ≡ get_or (pool_words l.now) (at + 1) 0 }
 {
     let pool = l.pool;
@@ -78,7 +75,6 @@ pub fn first_part(l: &Layout, at: usize) -> usize
 
 // The place behind an expression.
 pub fn skip_expr(l: &Layout, at: usize, nest: u32) -> usize
-    requires { Inside l.now }
     ensures { AtExpr l.now nest at (λ e n. result ≡ n) }
 {
     let pool = l.pool;
@@ -87,7 +83,6 @@ pub fn skip_expr(l: &Layout, at: usize, nest: u32) -> usize
 
 // The type of a field access, if its receiver is SelfRef.
 fn field_hint(l: &Layout, ctx: Context, at: usize) -> MaybeType
-    requires { Inside l.now }
     ensures { HintsField l.now ctx at result }
 {
     let k = place_kind(kind_at(l, first_part(l, at)));
@@ -108,7 +103,6 @@ pub fn expression_hint(
     lens: &[u32],
     at: usize,
 ) -> MaybeType
-    requires { Inside l.now }
     ensures { HintsExpression l.now ctx names.now words.now lens.now at result }
 {
     let k = place_kind(kind_at(l, at));
@@ -142,7 +136,6 @@ pub fn binary_hint(
     right: usize,
     expected: MaybeType,
 ) -> MaybeType
-    requires { Inside l.now }
     ensures { HintsBinary l.now ctx names.now words.now lens.now op left right expected result }
 {
     let a = expression_hint(l, ctx, names, words, lens, left);

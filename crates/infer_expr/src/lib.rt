@@ -1,7 +1,6 @@
 // Expressions are typed by recursion while the allowed nesting falls.
 #![tactic(auto)]
 
-ghost use Rattle.image_layout.specs.Rows.{Inside};
 ghost use Rattle.infer_expr.specs.Infers.{Infers};
 
 use image_layout::Layout;
@@ -28,7 +27,6 @@ pub fn infer_expr(
     expected: MaybeType,
     context: u32,
 ) -> Inferred
-    requires { Inside l.now }
     ensures { Infers l.now names.now words.now lens.now ctx at nest expected context result }
 {
     // No expression is nested 0 deep: what is answered then means nothing.

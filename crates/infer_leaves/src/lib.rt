@@ -6,7 +6,6 @@ ghost use Rattle.rules.specs.Syntax.{Expr};
 ghost use Rattle.rules.specs.Fits.{literal_own};
 ghost use Rattle.type_words.specs.Holds.{Holds, EachMaybe, MaybeHolds};
 ghost use Rattle.literal_fits.specs.Literals.{literal_type};
-ghost use Rattle.image_layout.specs.Rows.{Inside};
 ghost use Rattle.image_layout.specs.Open.{pool_words};
 ghost use Rattle.infer_context.specs.Stood.{Stood};
 ghost use Rattle.infer_leaves.specs.Clauses.{InfersLiteral, InfersPlace, InfersLeaf, NamesMethod};
@@ -21,7 +20,6 @@ use type_words::{HeldType, MaybeType};
 
 // The 64 bits of a literal.
 fn literal_bits(l: &Layout, at: usize) -> u64
-    requires { Inside l.now }
     ensures { (nest c low high n : ℕ) → Stood l.now.names.rows l.now.strings.rows (pool_words l.now) nest (Expr.literal c low high) at n → result ≡ low + 4294967296 * high }
 {
     let pool = l.pool;
@@ -58,7 +56,6 @@ pub fn literal_own(code: u32) -> HeldType
 }
 
 fn infer_literal(l: &Layout, at: usize, expected: MaybeType, context: u32) -> Inferred
-    requires { Inside l.now }
     ensures { InfersLiteral l.now at expected context result }
 {
     let pool = l.pool;
@@ -84,7 +81,6 @@ fn infer_place(
     context: u32,
     number: u32,
 ) -> Inferred
-    requires { Inside l.now }
     ensures { InfersPlace l.now ctx names.now words.now lens.now at expected context number result }
 {
     let h = infer_context::expression_hint(l, ctx, names, words, lens, at);
@@ -97,7 +93,6 @@ fn infer_place(
 
 // The method's name in a trait method's call.
 fn method_name(l: &Layout, at: usize) -> NameId
-    requires { Inside l.now }
     ensures { NamesMethod l.now at result }
 {
     let pool = l.pool;
@@ -115,7 +110,6 @@ pub fn infer_leaf(
     expected: MaybeType,
     context: u32,
 ) -> Inferred
-    requires { Inside l.now }
     ensures { InfersLeaf l.now ctx names.now words.now lens.now at expected context result }
 {
     let k = infer_context::kind_at(l, at);

@@ -5,7 +5,6 @@ ghost use Rattle.std.specs.Prelude.{◌≡◌, cond, List, ℕ, eqb};
 ghost use Rattle.rules.specs.Syntax.{ResolvedType, Param};
 ghost use Rattle.rules.specs.Infer.{find_last};
 ghost use Rattle.type_words.specs.Holds.{MaybeHolds};
-ghost use Rattle.image_layout.specs.Rows.{Inside};
 ghost use Rattle.image_layout.specs.Open.{pool_words};
 ghost use Rattle.message_fields.specs.Fields.{Fields};
 ghost use Rattle.message_fields.specs.Clauses.{FindsField};
@@ -24,15 +23,13 @@ fn pick(best: usize, place: usize, name: NameId, x: NameId) -> usize
 
 // Where the type of the last field of this name stands, or 0.
 pub fn find_field(l: &Layout, at: usize, x: NameId) -> usize
-    requires { Inside l.now }
     ensures { FindsField l.now at x result }
 {
     let pool = l.pool;
     let count = image_words::section_word(pool, at);
-    let mut i = 0;
     let mut next = after(pool, at);
     let mut best = 0;
-    while i < count {
+    for _ in 0..count {
         let place = after(pool, next);
         best = pick(
             best,
@@ -41,14 +38,12 @@ pub fn find_field(l: &Layout, at: usize, x: NameId) -> usize
             x,
         );
         next = skip_types::skip_type(pool, place);
-        i += 1;
     }
     best
 }
 
 // The type of the last field of this name.
 pub fn field_type(l: &Layout, at: usize, x: NameId) -> MaybeType
-    requires { Inside l.now }
     ensures { (ps : List (Param ResolvedType)) (n : ℕ) → Fields l.now.names.rows (pool_words l.now) ps at n → MaybeHolds l.now.names.rows result (find_last x.0 ps) }
 {
     let place = find_field(l, at, x);

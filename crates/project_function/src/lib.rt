@@ -2,7 +2,6 @@
 #![tactic(auto)]
 
 ghost use Rattle.std.specs.Prelude.{◌≤◌, length};
-ghost use Rattle.image_layout.specs.Rows.{Inside};
 ghost use Rattle.project_function.specs.Clauses.{ProjectsStatements, ProjectsFunction};
 
 use crate::statement::project_step;
@@ -33,7 +32,7 @@ pub fn project_statements(
     limit: usize,
     to: usize,
 ) -> Outcome
-    requires { Inside l.now × (limit ≤ length out.old) × (64 ≤ length names.old) × (4096 ≤ length words.old) × (64 ≤ length lens.old) }
+    requires { (limit ≤ length out.old) × (64 ≤ length names.old) × (4096 ≤ length words.old) × (64 ≤ length lens.old) }
     ensures { ProjectsStatements l.now at count ctx names.old words.old lens.old returns out.old out.new limit to result }
 {
     let pool = l.pool;
@@ -41,8 +40,7 @@ pub fn project_statements(
     let mut locals = ctx.count;
     let mut next = at;
     let mut place = to;
-    let mut i = 0;
-    while i < count {
+    for i in 0..count {
         let c = Context {
             function,
             fields: ctx.fields,
@@ -63,7 +61,6 @@ pub fn project_statements(
         place = done.length;
         locals = s.count;
         next = skip_statement(l, next);
-        i += 1;
     }
     if returns.some {
         return return_mismatch(function, 2);
@@ -84,7 +81,7 @@ pub fn project_function(
     limit: usize,
     to: usize,
 ) -> Outcome
-    requires { Inside l.now × (limit ≤ length out.old) × (64 ≤ length names.old) × (4096 ≤ length words.old) × (64 ≤ length lens.old) × (ctx.count ≤ 32) }
+    requires { (limit ≤ length out.old) × (64 ≤ length names.old) × (4096 ≤ length words.old) × (64 ≤ length lens.old) × (ctx.count ≤ 32) }
     ensures { ProjectsFunction l.now at ctx names.old words.old lens.old returns out.old out.new limit to result }
 {
     let pool = l.pool;

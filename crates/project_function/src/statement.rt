@@ -1,6 +1,5 @@
 // One statement that is no Return: those behind it are still to come.
 ghost use Rattle.std.specs.Prelude.{◌≤◌, length};
-ghost use Rattle.image_layout.specs.Rows.{Inside};
 ghost use Rattle.project_function.specs.Clauses.{ProjectsStep};
 
 use answers::refusal::Refusal;
@@ -21,7 +20,7 @@ pub fn project_step(
     limit: usize,
     to: usize,
 ) -> Step
-    requires { Inside l.now × (limit ≤ length out.old) × (64 ≤ length names.old) × (4096 ≤ length words.old) × (64 ≤ length lens.old) }
+    requires { (limit ≤ length out.old) × (64 ≤ length names.old) × (4096 ≤ length words.old) × (64 ≤ length lens.old) }
     ensures { ProjectsStep l.now at ctx names.old names.new words.old words.new
         lens.old lens.new out.old out.new limit to result }
 {

@@ -2,7 +2,8 @@
 use Prim.Native.Nat.{ℕ, suc, ◌+◌, ◌<◌, ◌≤◌}
 use mathlib.Core.Path.{◌≡◌, refl, sym, ap, subst, ◌∙◌}
 use mathlib.Core.List.{List, [], ◌∷◌}
-use mathlib.Core.Option.{Option}
+use Rattle.std.specs.Prelude.{Option, Some, None, IsSome, IsSomeAnd}
+use mathlib.Core.Option.{Option as Maybe}
 use native.Mathlib.Omega.{arith}
 use lib.ListN.{length}
 use Rattle.rules.specs.Syntax.{ResolvedType, TypeExpr, CompiledSchema, Param}
@@ -21,6 +22,10 @@ use Rattle.expected_locals.specs.declared.Returned.{Returned}
 use Rattle.expected_locals.specs.Entered.{EnteredDone, EnteredAgrees, EnteredSays, ReturnedDone, ReturnedAgrees, ReturnedSays}
 use Rattle.project_functions.specs.Asked.{One}
 use Rattle.project_functions.proofs.Resolved.{Resolved, resolved}
+
+is_there : {A : Type 0} (o : Option A) (P : A → Type 0) → IsSomeAnd o P → IsSome o
+is_there None P h = absurd h
+is_there (Some x) P h = refl
 
 -- as many parameters as expressions
 module _ (schema : CompiledSchema) (seen : List (Param ResolvedType)) where
@@ -60,32 +65,47 @@ module _ {l : Layout} {params : List ℕ} {at : ℕ} (k : One l params at) where
     stands = k.here.stands.parts.params_at;
   }
 
-  -- the parameters are the table's rows
-  module _ {names words lens : List ℕ} {e : Entered}
-      (says : (h : ParamsHere l params (at + 1)) → EnteredSays l.names.rows (resolve_params h.schema h.seen h.tree) h.behind names words lens e) where
-    pub entered : EnteredDone l.names.rows parts_of.params k.here.stands.parts.params_end names words lens e
-    entered = subst (λ (o : Counted (List (Param ResolvedType))). EnteredAgrees l.names.rows o k.here.stands.parts.params_end names words lens e) parts_of.params_is (says params_here).is
+  -- all parameters keep the bounds
+  module _ {names words lens : List ℕ} {o : Option Entered} (says : (h : ParamsHere l params (at + 1)) → EnteredSays l.names.rows (resolve_params h.schema h.seen h.tree) h.behind names words lens o) where
+    agrees : EnteredAgrees l.names.rows (done parts_of.params_visits parts_of.params) k.here.stands.parts.params_end names words lens o
+    agrees = subst (λ (r : Counted (List (Param ResolvedType))). EnteredAgrees l.names.rows r k.here.stands.parts.params_end names words lens o) parts_of.params_is (says params_here).is
 
-    pub few : e.count ≤ 32
-    few = omega (arith, entered.count, as_many_params k.here.schema k.here.seen k.here.tree.params parts_of.params_is, k.here.stands.parts.params_at.1)
+    pub all_enter : IsSome o
+    all_enter = is_there o _ agrees
 
-    pub table : Rows l.names.rows names words lens e.count 0 k.signature.params
-    table = subst (λ (s : PortableSignature). Rows l.names.rows names words lens e.count 0 s.params) (sym parts_of.so) entered.table
+    -- the parameters are the table's rows
+    module _ {e : Entered} (is : o ≡ Some e) where
+      pub entered : EnteredDone l.names.rows parts_of.params k.here.stands.parts.params_end names words lens e
+      entered = subst (λ (z : Option Entered). EnteredAgrees l.names.rows (done parts_of.params_visits parts_of.params) k.here.stands.parts.params_end names words lens z) is agrees
 
-    -- the return stands behind them
-    abbrev pub return_here : ReturnHere l params e.next
-    return_here = record {
-      schema = k.here.schema;
-      opened = k.here.opened;
-      seen = k.here.seen;
-      views = k.here.views;
-      tree = k.here.tree.return_type;
-      behind = k.here.behind;
-      stands = subst (λ (n : ℕ). TraitReturnAt l.names.rows (pool_words l) k.here.tree.return_type n k.here.behind) (sym entered.next) k.here.stands.parts.return_at;
-    }
+      pub few : e.count ≤ 32
+      few = omega (arith, entered.count, as_many_params k.here.schema k.here.seen k.here.tree.params parts_of.params_is, k.here.stands.parts.params_at.1)
 
-    pub holds : {t : Returned} → ((h : ReturnHere l params e.next) → ReturnedSays l.names.rows (resolve_return h.schema h.seen h.tree) h.behind t) → MaybeHolds l.names.rows t.ty k.signature.return_type
-    holds {t} r =
-        let d : ReturnedDone l.names.rows parts_of.returns k.here.behind t =
-        subst (λ (o : Counted (Option ResolvedType)). ReturnedAgrees l.names.rows o k.here.behind t) parts_of.returns_is (r return_here).is in
-        subst (λ (s : PortableSignature). MaybeHolds l.names.rows t.ty s.return_type) (sym parts_of.so) d.holds
+      pub table : Rows l.names.rows names words lens e.count 0 k.signature.params
+      table = subst (λ (s : PortableSignature). Rows l.names.rows names words lens e.count 0 s.params) (sym parts_of.so) entered.table
+
+      -- the return stands behind them
+      abbrev pub return_here : ReturnHere l params e.next
+      return_here = record {
+        schema = k.here.schema;
+        opened = k.here.opened;
+        seen = k.here.seen;
+        views = k.here.views;
+        tree = k.here.tree.return_type;
+        behind = k.here.behind;
+        stands = subst (λ (n : ℕ). TraitReturnAt l.names.rows (pool_words l) k.here.tree.return_type n k.here.behind) (sym entered.next) k.here.stands.parts.return_at;
+      }
+
+      -- the return keeps them too, and is held
+      module _ {t : Option Returned} (r : (h : ReturnHere l params e.next) → ReturnedSays l.names.rows (resolve_return h.schema h.seen h.tree) h.behind t) where
+        kept : ReturnedAgrees l.names.rows (done parts_of.return_visits parts_of.returns) k.here.behind t
+        kept = subst (λ (q : Counted (Maybe ResolvedType)). ReturnedAgrees l.names.rows q k.here.behind t) parts_of.returns_is (r return_here).is
+
+        pub returns_too : IsSome t
+        returns_too = is_there t _ kept
+
+        pub holds : {u : Returned} → t ≡ Some u → MaybeHolds l.names.rows u.ty k.signature.return_type
+        holds {u} q =
+            let d : ReturnedDone l.names.rows parts_of.returns k.here.behind u =
+            subst (λ (z : Option Returned). ReturnedAgrees l.names.rows (done parts_of.return_visits parts_of.returns) k.here.behind z) q kept in
+            subst (λ (s : PortableSignature). MaybeHolds l.names.rows u.ty s.return_type) (sym parts_of.so) d.holds

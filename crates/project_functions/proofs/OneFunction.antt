@@ -4,6 +4,7 @@ use mathlib.Core.Path.{◌≡◌, refl, sym, ap, subst, ◌∙◌}
 use mathlib.Core.Bool.{true, false}
 use mathlib.Core.List.{List}
 use mathlib.Core.Option.{some}
+use Rattle.std.specs.Prelude.{Some, None}
 use Rattle.rules.specs.Syntax.{MessageDef, ImplDef}
 use Rattle.rules.specs.Refusal.{in_function}
 use Rattle.rules.specs.CheckSignature.{check_signature}
@@ -19,7 +20,6 @@ use Rattle.locals.specs.Rows.{Rows}
 use Rattle.rules.specs.declared.ids.NameId.{NameId}
 use Rattle.infer_context.specs.InContext.{InContext}
 use Rattle.project_outcome.specs.Outcomes.{Passes, ComesTo}
-use Rattle.impl_rows.specs.declared.find.Found.{Found}
 use Rattle.impl_rows.specs.Found.{Finds}
 use Rattle.impl_rows.proofs.Has.{Has, has, lacks}
 use Rattle.project_function.specs.Made.{body_words_of}
@@ -33,7 +33,7 @@ use Rattle.project_outcome.proofs.Passing.{not_passed, was_passed}
 use Rattle.project_functions.proofs.Entering.{same_name}
 
 module _ {l : Layout} {params : List ℕ} {at : ℕ} (k : One l params at) (impl : ImplDef) (message : MessageDef)
-    {name : ℕ} (named : name ≡ k.here.tree.name) {g : Found} (found : Finds (FunctionHere l) (find_function name impl.functions) g) where
+    {name : ℕ} (named : name ≡ k.here.tree.name) where
   pub name_is : name ≡ k.signature.name
   name_is = named ∙ sym (same_name k)
 
@@ -41,12 +41,12 @@ module _ {l : Layout} {params : List ℕ} {at : ℕ} (k : One l params at) (impl
   ComesHere limit to old new o = ComesTo (one_words impl message k.signature) limit to old new o
 
   -- 11
-  pub missing : g.ok ≡ false → {o : Outcome} → o.ok ≡ false → refusal_of o.refusal ≡ in_function 11 name → {limit to : ℕ} {old new : List ℕ} → ComesHere limit to old new o
-  missing n z e = comes_err (one_missing impl message k.signature (ap (λ (x : ℕ). find_function x impl.functions) (sym name_is) ∙ lacks found n)) z (e ∙ ap (in_function 11) name_is)
+  pub missing : Finds (FunctionHere l) (find_function name impl.functions) None → {o : Outcome} → o.ok ≡ false → refusal_of o.refusal ≡ in_function 11 name → {limit to : ℕ} {old new : List ℕ} → ComesHere limit to old new o
+  missing found z e = comes_err (one_missing impl message k.signature (ap (λ (x : ℕ). find_function x impl.functions) (sym name_is) ∙ lacks found)) z (e ∙ ap (in_function 11) name_is)
 
-  module _ (y : g.ok ≡ true) where
-    abbrev pub hit : Has (FunctionHere l) (find_function name impl.functions) g
-    hit = has found y
+  module _ {start : ℕ} (found : Finds (FunctionHere l) (find_function name impl.functions) (Some start)) where
+    abbrev pub hit : Has (FunctionHere l) (find_function name impl.functions) start
+    hit = has found
 
     is_found : find_function k.signature.name impl.functions ≡ some hit.a
     is_found = ap (λ (x : ℕ). find_function x impl.functions) (sym name_is) ∙ hit.is

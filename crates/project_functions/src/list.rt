@@ -39,8 +39,7 @@ pub fn project_list(
     let count = image_words::section_word(pool, at);
     let mut place = write_words::put(out, limit, to, count);
     let mut next = at + 1;
-    let mut i = 0;
-    while i < count {
+    for i in 0..count {
         let name = name_in(names, i);
         let f = crate::one::project_one(l, next, name, params, places, parts, out, limit, place);
         if !f.ok {
@@ -48,7 +47,6 @@ pub fn project_list(
         }
         place = f.length;
         next = impl_functions::places::after_asked(l, next);
-        i += 1;
     }
     answers::answer::accepted(place, 0)
 }

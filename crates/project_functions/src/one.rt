@@ -30,17 +30,15 @@ pub fn project_one(
     requires { Cut l.now × One l.now params.now at × (limit ≤ length out.old) }
     ensures { ProjectsOne l.now at name params.now places.now parts out.old out.new limit to result }
 {
-    let f = impl_functions::search::find_function(l, places, name);
-    if !f.ok {
+    let Some(start) = impl_functions::search::find_function(l, places, name) else {
         return answers::answer::refused(Refusal::at(11, name));
-    }
-    let start = f.start;
+    };
     let mut names = [0u32; LOCAL_ROWS];
     let mut words = [0u32; LOCAL_WORDS];
     let mut lens = [0u32; LOCAL_ROWS];
-    let e = enter_params(l, at + 1, params, &mut names, &mut words, &mut lens);
+    let e = enter_params(l, at + 1, params, &mut names, &mut words, &mut lens).unwrap();
     let count = e.count;
-    let t = enter_return(l, e.next, params);
+    let t = enter_return(l, e.next, params).unwrap();
     let returns = t.ty;
     let c = check_signature(l, start, name, &names, &words, &lens, count, returns);
     if !c.ok {

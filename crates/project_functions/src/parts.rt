@@ -2,7 +2,6 @@
 ghost use Rattle.std.specs.Prelude.{◌≡◌, List, ℕ};
 ghost use Rattle.rules.specs.Syntax.{ResolvedType};
 ghost use Rattle.image_words.specs.Gives.{Counted};
-ghost use Rattle.image_layout.specs.Rows.{Inside};
 ghost use Rattle.image_layout.specs.Open.{pool_words};
 ghost use Rattle.pool_types.specs.TypeAt.{TypeStands};
 
@@ -17,7 +16,6 @@ pub struct Parts {
 
 // The place behind the type arguments at `at`: there the functions stand.
 pub fn functions_start(l: &Layout, at: usize) -> usize
-    requires { Inside l.now }
     ensures { (ts : List ResolvedType) (n : ℕ) → Counted (pool_words l.now) 8 (TypeStands l.now.names.rows (pool_words l.now)) ts at n → result ≡ n }
 {
     let pool = l.pool;

@@ -18,9 +18,8 @@ pub fn project(l: &Layout, f: Subject, out: &mut [u8]) -> Outcome
     ensures { Projects l.now f out.old out.new result }
 {
     let target = f.target;
-    let m = impl_target::target_message(l, target);
-    if !m.ok {
+    let Some(fields) = impl_target::target_message(l, target) else {
         return answers::answer::refused(Refusal::alone(5));
-    }
-    crate::found::project_found(l, f.start, f.types, m.start, target, out)
+    };
+    crate::found::project_found(l, f.start, f.types, fields, target, out)
 }

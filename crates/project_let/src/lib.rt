@@ -2,7 +2,6 @@
 #![tactic(auto)]
 
 ghost use Rattle.std.specs.Prelude.{◌≤◌, length};
-ghost use Rattle.image_layout.specs.Rows.{Inside};
 ghost use Rattle.project_let.specs.Clauses.{WritesLet, ProjectsLet};
 
 use crate::written::written_type;
@@ -40,7 +39,7 @@ fn write_let(
     limit: usize,
     to: usize,
 ) -> usize
-    requires { Inside l.now × (limit ≤ length out.old) }
+    requires { limit ≤ length out.old }
     ensures { WritesLet l.now ctx names.now words.now lens.now at name ty out.old out.new limit to result }
 {
     let a = write_words::put_two(out, limit, to, StatementTag::LET, name.0);
@@ -60,7 +59,7 @@ pub fn project_let(
     limit: usize,
     to: usize,
 ) -> Step
-    requires { Inside l.now × (limit ≤ length out.old) × (64 ≤ length names.old) × (4096 ≤ length words.old) × (64 ≤ length lens.old) }
+    requires { (limit ≤ length out.old) × (64 ≤ length names.old) × (4096 ≤ length words.old) × (64 ≤ length lens.old) }
     ensures { ProjectsLet l.now at ctx names.old names.new words.old words.new
         lens.old lens.new out.old out.new limit to result }
 {

@@ -1,5 +1,4 @@
 // The type written on a Let.
-ghost use Rattle.image_layout.specs.Rows.{Inside};
 ghost use Rattle.project_let.specs.Clauses.{TellsWrittenType};
 
 use image_layout::Layout;
@@ -14,7 +13,6 @@ pub struct Wanted {
 }
 
 pub fn written_type(l: &Layout, at: usize) -> Wanted
-    requires { Inside l.now }
     ensures { TellsWrittenType l.now at result }
 {
     let pool = l.pool;

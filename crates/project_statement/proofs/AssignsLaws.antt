@@ -18,7 +18,9 @@ use Rattle.write_words.specs.Written.{Written}
 use Rattle.pool_bodies.specs.StatementAt.{StatementStands}
 use Rattle.infer_context.specs.Stood.{Stood}
 use Rattle.project_outcome.specs.Outcomes.{ComesTo}
-use Rattle.project_statement.specs.declared.assigns.Assigned.{Assigned}
+use Rattle.rules.specs.declared.ids.NameId.{NameId}
+use Rattle.std.specs.Prelude.{Some, None}
+use Rattle.rules.proofs.Clash.{clash}
 use Rattle.project_statement.specs.Made.{made_assign, value_of, assign_words}
 use Rattle.project_statement.specs.Targets.{FieldAgrees}
 use Rattle.project_outcome.proofs.Coming.{behind, comes_same, comes_err, comes_behind}
@@ -40,46 +42,43 @@ module _ (c : FunctionContext) (target e : Expr) where
   found_o f (err z) = refl
   found_o f (ok v) = refl
 
-  module _ (d : Assigned) (h : FieldAgrees c.function (assigned_field c.function (place target)) d) where
-    -- 19
-    refused_o : d.ok ≡ false → assign_words c target e ≡ err (in_function 19 c.function)
-    unfolding ◌>>=◌
-    refused_o = go (assigned_field c.function (place target)) refl h
-      where
-        go : (r : Result ℕ) → assigned_field c.function (place target) ≡ r → FieldAgrees c.function r d → d.ok ≡ false → assign_words c target e ≡ err (in_function 19 c.function)
-        go (err z) i a q = named_o i ∙ ap err (sym a.1)
-        go (ok x) i a q = absurd (false≢true (sym q ∙ a.0))
+  -- 19
+  pub no_field : FieldAgrees c.function (assigned_field c.function (place target)) None → {limit to : ℕ} {old new : List ℕ} {r : Outcome} → r.ok ≡ false
+      → refusal_of r.refusal ≡ in_function 19 c.function → ComesTo (assign_words c target e) limit to old new r
+  unfolding ◌>>=◌
+  no_field h = comes_err (go (assigned_field c.function (place target)) refl h)
+    where
+      go : (r : Result ℕ) → assigned_field c.function (place target) ≡ r → FieldAgrees c.function r None → assign_words c target e ≡ err (in_function 19 c.function)
+      go (err z) i a = named_o i ∙ ap err (sym a.1)
+      go (ok x) i a = absurd a
 
-    field_o : d.ok ≡ true → assign_words c target e ≡ in_words (typed d.field.0 (find_last d.field.0 c.fields))
+  module _ (d : NameId) (h : FieldAgrees c.function (assigned_field c.function (place target)) (Some d)) where
+    field_o : assign_words c target e ≡ in_words (typed d.0 (find_last d.0 c.fields))
     unfolding ◌>>=◌
     field_o = go (assigned_field c.function (place target)) refl h
       where
-        go : (r : Result ℕ) → assigned_field c.function (place target) ≡ r → FieldAgrees c.function r d → d.ok ≡ true → assign_words c target e ≡ in_words (typed d.field.0 (find_last d.field.0 c.fields))
-        go (err z) i a q = absurd (false≢true (sym a.0 ∙ q))
-        go (ok x) i a q = named_o i ∙ ap (λ (f : ℕ). in_words (typed f (find_last f c.fields))) (sym a.1)
+        go : (r : Result ℕ) → assigned_field c.function (place target) ≡ r → FieldAgrees c.function r (Some d) → assign_words c target e ≡ in_words (typed d.0 (find_last d.0 c.fields))
+        go (err z) i (q, y) = clash (cc)
+        go (ok x) i a = named_o i ∙ ap (λ (f : ℕ). in_words (typed f (find_last f c.fields))) (sym a)
 
-    module _ {limit to : ℕ} {old new : List ℕ} {r : Outcome} where
-      pub no_field : d.ok ≡ false → r.ok ≡ false → refusal_of r.refusal ≡ in_function 19 c.function → ComesTo (assign_words c target e) limit to old new r
-      no_field q = comes_err (refused_o q)
+    module _ {limit to : ℕ} {old new : List ℕ} {r : Outcome} (rows : ℕ) (m : MaybeType) (w : MaybeHolds rows m (find_last d.0 c.fields)) where
+      -- 17
+      pub unknown : m.some ≡ false → r.ok ≡ false → refusal_of r.refusal ≡ with_name 17 c.function d.0 → ComesTo (assign_words c target e) limit to old new r
+      unfolding ◌>>=◌ or_refuse
+      unknown s = comes_err (field_o ∙ go (find_last d.0 c.fields) w)
+        where
+          go : (o : Option ResolvedType) → MaybeHolds rows m o → in_words (typed d.0 o) ≡ err (with_name 17 c.function d.0)
+          go none w = refl
+          go (some t) w = absurd (false≢true (sym s ∙ w.0))
 
-      module _ (rows : ℕ) (m : MaybeType) (w : MaybeHolds rows m (find_last d.field.0 c.fields)) (q : d.ok ≡ true) where
-        -- 17
-        pub unknown : m.some ≡ false → r.ok ≡ false → refusal_of r.refusal ≡ with_name 17 c.function d.field.0 → ComesTo (assign_words c target e) limit to old new r
-        unfolding ◌>>=◌ or_refuse
-        unknown s = comes_err (field_o q ∙ go (find_last d.field.0 c.fields) w)
-          where
-            go : (o : Option ResolvedType) → MaybeHolds rows m o → in_words (typed d.field.0 o) ≡ err (with_name 17 c.function d.field.0)
-            go none w = refl
-            go (some t) w = absurd (false≢true (sym s ∙ w.0))
-
-        pub assigned : m.some ≡ true → {a : ℕ} {mid : List ℕ} → Written limit to (3 ∷ d.field.0 ∷ []) old a mid
-            → ((o : Option ResolvedType) → MaybeHolds rows m o → ComesTo (value_of c e o 5) limit a mid new r) → ComesTo (assign_words c target e) limit to old new r
-        unfolding or_refuse value_of ◌>>=◌
-        assigned s {a} {mid} b v = comes_same (field_o q) (go (find_last d.field.0 c.fields) w)
-          where
-            go : (o : Option ResolvedType) → MaybeHolds rows m o → ComesTo (in_words (typed d.field.0 o)) limit to old new r
-            go none w = absurd (false≢true (sym w ∙ s))
-            go (some t) w = comes_same (found_o d.field.0 (infer_expr c e (some t) 5)) (comes_behind b (v (some t) w))
+      pub assigned : m.some ≡ true → {a : ℕ} {mid : List ℕ} → Written limit to (3 ∷ d.0 ∷ []) old a mid
+          → ((o : Option ResolvedType) → MaybeHolds rows m o → ComesTo (value_of c e o 5) limit a mid new r) → ComesTo (assign_words c target e) limit to old new r
+      unfolding or_refuse value_of ◌>>=◌
+      assigned s {a} {mid} b v = comes_same field_o (go (find_last d.0 c.fields) w)
+        where
+          go : (o : Option ResolvedType) → MaybeHolds rows m o → ComesTo (in_words (typed d.0 o)) limit to old new r
+          go none w = absurd (false≢true (sym w ∙ s))
+          go (some t) w = comes_same (found_o d.0 (infer_expr c e (some t) 5)) (comes_behind b (v (some t) w))
 
 -- where target and value stand
 module _ {rows strings : ℕ} {ws : List ℕ} {at n : ℕ} (t e : Expr) (s : StatementStands rows strings ws (Statement.assign t e) at n) (i : ℕ) (a : at < length ws → i ≡ at + 1) where

@@ -1,7 +1,6 @@
 -- What an assignment's target names, by the codes that stand there.
 use Prim.Native.Nat.{ℕ, ◌+◌, ◌-◌, ◌<◌}
 use mathlib.Core.Path.{◌≡◌, refl, sym, ap, ◌∙◌}
-use mathlib.Core.Bool.{true, false}
 use mathlib.Core.List.{List}
 use lib.ListN.{length, get_or}
 use Rattle.rules.specs.Syntax.{Expr}
@@ -16,7 +15,8 @@ use Rattle.pool_expressions.proofs.ExprAt.{value_shape}
 use Rattle.image_words.proofs.Heads.{head}
 use Rattle.infer_context.specs.Stood.{Stood}
 use Rattle.infer_context.proofs.Nodes.{node, by_code, field_word, receiver}
-use Rattle.project_statement.specs.declared.assigns.Assigned.{Assigned}
+use Rattle.rules.specs.declared.ids.NameId.{NameId}
+use Rattle.std.specs.Prelude.{Some, None}
 use Rattle.project_statement.specs.Targets.{FieldAgrees}
 
 module _ (f : ℕ) where
@@ -67,26 +67,26 @@ module _ (f : ℕ) where
   of_receiver x (Expr.binary op d e) q = clash (cc)
   of_receiver x (Expr.unary op e) q = clash (cc)
 
-module _ {names strings : ℕ} {ws : List ℕ} {nest at n : ℕ} (f : ℕ) (r : Assigned) where
+module _ {names strings : ℕ} {ws : List ℕ} {nest at n : ℕ} (f : ℕ) where
   -- no field access
-  pub at_none : (get_or ws at 0 ≡ 7 → ⊥) → r.ok ≡ false → (e : Expr) → Stood names strings ws nest e at n → FieldAgrees f (assigned_field f (place e)) r
+  pub at_none : (get_or ws at 0 ≡ 7 → ⊥) → (e : Expr) → Stood names strings ws nest e at n → FieldAgrees f (assigned_field f (place e)) None
   unfolding expr_words
-  at_none q h e s =
-      rw (no_target f e (λ i. q (by_code (λ e. Stood names strings ws nest e at n → get_or ws at 0 ≡ 7) ((node e s).1 ∙ i) (λ x d s. head s.words_at) e s s))) (h, refl)
+  at_none q e s =
+      rw (no_target f e (λ i. q (by_code (λ e. Stood names strings ws nest e at n → get_or ws at 0 ≡ 7) ((node e s).1 ∙ i) (λ x d s. head s.words_at) e s s))) (refl, refl)
 
   module _ (q : get_or ws at 0 ≡ 7) (j : ℕ) (is : at + 1 < length ws → j ≡ at + 1 + 1) where
     -- of what is no SelfRef
-    pub at_other : (get_or ws j 0 ≡ 6 → ⊥) → r.ok ≡ false → (e : Expr) → Stood names strings ws nest e at n → FieldAgrees f (assigned_field f (place e)) r
+    pub at_other : (get_or ws j 0 ≡ 6 → ⊥) → (e : Expr) → Stood names strings ws nest e at n → FieldAgrees f (assigned_field f (place e)) None
     unfolding expr_kind expr_words
-    at_other i h e s =
-        by_code (λ e. Stood names strings ws nest e at n → FieldAgrees f (assigned_field f (place e)) r) {k = ExprKind.FieldAccess} (ap expr_kind q)
+    at_other i e s =
+        by_code (λ e. Stood names strings ws nest e at n → FieldAgrees f (assigned_field f (place e)) None) {k = ExprKind.FieldAccess} (ap expr_kind q)
         (λ x d s. rw (no_receiver f x d (λ z. i (ap (λ (k : ℕ). get_or ws k 0) (is (field_word x d s).0)
-        ∙ by_code (λ e. Stood names strings ws (nest - 1) e (at + 1 + 1) n → get_or ws (at + 1 + 1) 0 ≡ 6) ((node d (receiver x d s)).1 ∙ z) (λ s. head s.words_at) d (receiver x d s) (receiver x d s)))) (h, refl)) e s s
+        ∙ by_code (λ e. Stood names strings ws (nest - 1) e (at + 1 + 1) n → get_or ws (at + 1 + 1) 0 ≡ 6) ((node d (receiver x d s)).1 ∙ z) (λ s. head s.words_at) d (receiver x d s) (receiver x d s)))) (refl, refl)) e s s
 
     -- of SelfRef
-    pub at_self : get_or ws j 0 ≡ 6 → r.ok ≡ true → (at < length ws → r.field.0 ≡ get_or ws (at + 1) 0) → (e : Expr) → Stood names strings ws nest e at n → FieldAgrees f (assigned_field f (place e)) r
+    pub at_self : get_or ws j 0 ≡ 6 → (d : NameId) → (at < length ws → d.0 ≡ get_or ws (at + 1) 0) → (e : Expr) → Stood names strings ws nest e at n → FieldAgrees f (assigned_field f (place e)) (Some d)
     unfolding expr_kind
-    at_self i h w e s =
-        by_code (λ e. Stood names strings ws nest e at n → FieldAgrees f (assigned_field f (place e)) r) {k = ExprKind.FieldAccess} (ap expr_kind q)
+    at_self i r w e s =
+        by_code (λ e. Stood names strings ws nest e at n → FieldAgrees f (assigned_field f (place e)) (Some r)) {k = ExprKind.FieldAccess} (ap expr_kind q)
         (λ x d s. rw (of_receiver f x d (sym (node d (receiver x d s)).1 ∙ ap (λ (k : ℕ). expr_kind (get_or ws k 0)) (sym (is (field_word x d s).0)) ∙ ap expr_kind i))
-        (h, w (node (Expr.field_access x d) s).0 ∙ (field_word x d s).1)) e s s
+        (w (node (Expr.field_access x d) s).0 ∙ (field_word x d s).1)) e s s

@@ -2,7 +2,6 @@
 ghost use Rattle.std.specs.Prelude.{ℕ, ◌≤◌, length};
 ghost use Rattle.rules.specs.Infer.{place};
 ghost use Rattle.rules.specs.Bodies.{assigned_field};
-ghost use Rattle.image_layout.specs.Rows.{Inside};
 ghost use Rattle.infer_context.specs.Stood.{AtExpr};
 ghost use Rattle.project_statement.specs.Targets.{FieldAgrees};
 ghost use Rattle.project_statement.specs.Clauses.{ProjectsAssign};
@@ -17,29 +16,21 @@ use rules::bounds::NESTING;
 use rules::ids::NameId;
 use rules::tags::{ExprTag, StatementTag};
 
-#[derive(Clone, Copy)]
-pub struct Assigned {
-    pub ok: bool,
-    pub field: NameId,
-}
-
 // The context of its value.
 const FIELD_ASSIGNMENT: u32 = 5;
 
-// The field that a target names.
-pub fn assigned_field(l: &Layout, at: usize) -> Assigned
-    requires { Inside l.now }
+// The field that a target names; None where it is no field of SelfRef.
+pub fn assigned_field(l: &Layout, at: usize) -> Option<NameId>
     ensures { (f nest : ℕ) → AtExpr l.now nest at (λ e n. FieldAgrees f (assigned_field f (place e)) result) }
 {
     let pool = l.pool;
-    let field = NameId(infer_context::operand(l, at));
     if image_words::section_word(pool, at) != ExprTag::FIELD_ACCESS {
-        return Assigned { ok: false, field };
+        return None;
     }
     if image_words::section_word(pool, infer_context::first_part(l, at)) != ExprTag::SELF_REF {
-        return Assigned { ok: false, field };
+        return None;
     }
-    Assigned { ok: true, field }
+    Some(NameId(infer_context::operand(l, at)))
 }
 
 // An assignment to a field of SelfRef.
@@ -54,17 +45,15 @@ pub fn project_assign(
     limit: usize,
     to: usize,
 ) -> Outcome
-    requires { Inside l.now × (limit ≤ length out.old) }
+    requires { limit ≤ length out.old }
     ensures { ProjectsAssign l.now at ctx names.now words.now lens.now out.old out.new limit to result }
 {
     let pool = l.pool;
     let function = ctx.function;
     let target = after(pool, at);
-    let f = assigned_field(l, target);
-    if !f.ok {
+    let Some(field) = assigned_field(l, target) else {
         return answers::answer::refused(Refusal::at(19, function));
-    }
-    let field = f.field;
+    };
     let ty = message_fields::field_type(l, ctx.fields, field);
     if !ty.some {
         return answers::answer::refused(Refusal::named(17, function, field));

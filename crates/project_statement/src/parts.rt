@@ -1,7 +1,6 @@
 // Where a statement's parts stand.
 ghost use Rattle.std.specs.Prelude.{◌≡◌, ℕ};
 ghost use Rattle.rules.specs.Syntax.{Statement};
-ghost use Rattle.image_layout.specs.Rows.{Inside};
 ghost use Rattle.image_layout.specs.Open.{pool_words};
 ghost use Rattle.pool_bodies.specs.StatementAt.{StatementStands};
 
@@ -9,7 +8,6 @@ use image_layout::Layout;
 
 // The place behind a statement.
 pub fn skip_statement(l: &Layout, at: usize) -> usize
-    requires { Inside l.now }
     ensures { (s : Statement) (n : ℕ) → StatementStands l.now.names.rows l.now.strings.rows (pool_words l.now) s at n → result ≡ n }
 {
     let pool = l.pool;

@@ -2,7 +2,6 @@
 ghost use Rattle.std.specs.Prelude.{◌≡◌, false, [], ◌∷◌, ◌≤◌, length};
 ghost use Rattle.rules.specs.Refusal.{with_detail};
 ghost use Rattle.answers.specs.Refusals.{refusal_of};
-ghost use Rattle.image_layout.specs.Rows.{Inside};
 ghost use Rattle.project_statement.specs.Clauses.{ReturnsNothing, ReturnsValue, ProjectsReturn};
 
 use crate::value::project_value;
@@ -61,7 +60,7 @@ fn return_value(
     limit: usize,
     to: usize,
 ) -> Outcome
-    requires { Inside l.now × (limit ≤ length out.old) }
+    requires { limit ≤ length out.old }
     ensures { ReturnsValue l.now at ctx names.now words.now lens.now returns last out.old out.new limit to result }
 {
     let function = ctx.function;
@@ -105,7 +104,7 @@ pub fn project_return(
     limit: usize,
     to: usize,
 ) -> Outcome
-    requires { Inside l.now × (limit ≤ length out.old) }
+    requires { limit ≤ length out.old }
     ensures { ProjectsReturn l.now at ctx names.now words.now lens.now returns last out.old out.new limit to result }
 {
     let flag = infer_context::operand(l, at);

@@ -1,6 +1,5 @@
 // A statement's value: typed, then written.
 ghost use Rattle.std.specs.Prelude.{◌≤◌, length};
-ghost use Rattle.image_layout.specs.Rows.{Inside};
 ghost use Rattle.project_statement.specs.Clauses.{ProjectsValue};
 
 use answers::answer::Outcome;
@@ -23,7 +22,7 @@ pub fn project_value(
     limit: usize,
     to: usize,
 ) -> Outcome
-    requires { Inside l.now × (limit ≤ length out.old) }
+    requires { limit ≤ length out.old }
     ensures { ProjectsValue l.now ctx names.now words.now lens.now at expected context out.old out.new limit to result }
 {
     let r = infer_expr::infer_expr(l, ctx, names, words, lens, at, NESTING, expected, context);

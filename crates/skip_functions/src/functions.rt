@@ -13,14 +13,12 @@ ghost use Rattle.skip_functions.specs.Clauses.{SkipsParams, SkipsExprParams};
 fn skip_named(pool: &[u8], at: usize, count: u32) -> usize
     ensures { (names n : ℕ) → Pending (ParamAt names (section_words pool.now) (TypeExprAt names (section_words pool.now))) count at n → result ≡ n }
 {
-    let mut pending = count;
     let mut next = at;
-    while 0 < pending {
+    for _ in 0..count {
         if image_words::count(pool) <= next {
             return next;
         }
         next = skip_types::skip_type(pool, next + 1);
-        pending -= 1;
     }
     next
 }

@@ -32,11 +32,9 @@ pub fn skip_statement(pool: &[u8], at: usize) -> usize
 fn skip_statements(pool: &[u8], at: usize, count: u32) -> usize
     ensures { (names strings n : ℕ) → Pending (StatementAt names strings (section_words pool.now)) count at n → result ≡ n }
 {
-    let mut pending = count;
     let mut next = at;
-    while 0 < pending {
+    for _ in 0..count {
         next = skip_statement(pool, next);
-        pending -= 1;
     }
     next
 }

@@ -2,7 +2,7 @@
 #![tactic(auto)]
 
 ghost use Rattle.std.specs.Prelude.{◌<◌, ◌≡◌, false, length};
-ghost use Rattle.image_layout.specs.Rows.{Inside, Cut};
+ghost use Rattle.image_layout.specs.Rows.{Cut};
 ghost use Rattle.subst_leaves.specs.Says.{Keeps};
 ghost use Rattle.subst_leaves.specs.Nodes.{Leaves, Names, Qualifieds, Poisons};
 ghost use Rattle.image_layout.specs.Open.{pool_words};
@@ -34,7 +34,6 @@ pub fn failed() -> Resolved
 
 // A type that stands for itself.
 pub fn leaf(l: &Layout, at: usize, left: u32) -> Resolved
-    requires { Inside l.now }
     ensures { Keeps left result (Leaves l.now at left result) }
 {
     let h = type_from_pool::hold_type(l, at);
@@ -48,7 +47,7 @@ pub fn leaf(l: &Layout, at: usize, left: u32) -> Resolved
 }
 
 pub fn named(l: &Layout, at: usize, left: u32, params: &[u32]) -> Resolved
-    requires { Inside l.now × (at < length (pool_words l.now)) }
+    requires { at < length (pool_words l.now) }
     ensures { Keeps left result (Names l.now at left params.now result) }
 {
     let pool = l.pool;
@@ -78,7 +77,6 @@ pub fn qualified(l: &Layout, at: usize, left: u32) -> Resolved
 
 // A generic name that is no alias: its argument at `at` is passed over, and nothing of it counts.
 pub fn poison(l: &Layout, at: usize, left: u32) -> Resolved
-    requires { Inside l.now }
     ensures { Keeps left result (Poisons l.now at left result) }
 {
     let pool = l.pool;

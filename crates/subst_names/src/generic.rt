@@ -2,7 +2,6 @@
 ghost use Rattle.std.specs.Prelude.{◌<◌, ◌≡◌, false};
 ghost use Rattle.rules.specs.Syntax.{CompiledSchema};
 ghost use Rattle.rules.specs.Substitute.{lookup_alias};
-ghost use Rattle.image_layout.specs.Rows.{Inside};
 ghost use Rattle.image_layout.specs.Open.{Open, pool_words};
 ghost use Rattle.subst_names.specs.Aliases.{is_generic, IsAlias};
 ghost use Rattle.subst_names.specs.Clauses.{TellsOneParameter};
@@ -44,7 +43,6 @@ fn is_generic(k: DefinitionKind) -> bool
 
 // The alias that stands in the pool at `start`, if it has one parameter.
 fn one_parameter(l: &Layout, start: u32) -> Alias
-    requires { Inside l.now }
     ensures { TellsOneParameter l.now start result }
 {
     let pool = l.pool;
@@ -61,7 +59,6 @@ fn one_parameter(l: &Layout, start: u32) -> Alias
 
 // The one-parameter generic alias that is a name's definition, else its Named alias.
 pub fn lookup_alias(l: &Layout, x: NameId) -> Alias
-    requires { Inside l.now }
     ensures { (s : CompiledSchema) → Open l.now s → x.0 < l.now.names.rows → IsAlias l.now.names.rows (pool_words l.now) result (lookup_alias s x.0) }
 {
     let d = crate::names::lookup(l, x);

@@ -5,7 +5,7 @@ ghost use Rattle.rules.specs.Words.{NONE};
 ghost use Rattle.rules.specs.Options.{or, then};
 ghost use Rattle.rules.specs.Syntax.{ResolvedType, CompiledSchema};
 ghost use Rattle.rules.specs.Substitute.{number, lookup, lookup_primitive_alias};
-ghost use Rattle.image_layout.specs.Rows.{Inside, Cut};
+ghost use Rattle.image_layout.specs.Rows.{Cut};
 ghost use Rattle.image_layout.specs.Open.{Open, AliasStands, pool_words};
 ghost use Rattle.type_words.specs.Holds.{MaybeHolds};
 ghost use Rattle.subst_names.specs.Clauses.{ResolvesName, ResolvesQualified};
@@ -17,7 +17,6 @@ use type_words::{HeldType, MaybeType};
 
 // The number of a Named alias, else NONE.
 fn alias_number(l: &Layout, start: u32) -> TypeId
-    requires { Inside l.now }
     ensures { (o : Option ResolvedType) → AliasStands l.now.names.rows (pool_words l.now) start o → result.0 ≡ or (then o number) NONE }
 {
     if start == NOWHERE {
@@ -33,7 +32,6 @@ fn alias_number(l: &Layout, start: u32) -> TypeId
 
 // A name's definition, else the number of its Named alias, else NONE.
 pub fn lookup(l: &Layout, x: NameId) -> TypeId
-    requires { Inside l.now }
     ensures { (s : CompiledSchema) → Open l.now s → x.0 < l.now.names.rows → result.0 ≡ or (lookup s x.0) NONE }
 {
     let row = image_layout::name_row(l, x);
@@ -46,7 +44,6 @@ pub fn lookup(l: &Layout, x: NameId) -> TypeId
 
 // A name's alias where it is a primitive.
 pub fn lookup_primitive_alias(l: &Layout, x: NameId) -> MaybeType
-    requires { Inside l.now }
     ensures { (s : CompiledSchema) → Open l.now s → x.0 < l.now.names.rows → MaybeHolds l.now.names.rows result (lookup_primitive_alias s x.0) }
 {
     let row = image_layout::name_row(l, x);
@@ -64,7 +61,6 @@ pub fn lookup_primitive_alias(l: &Layout, x: NameId) -> MaybeType
 
 // The first equal type parameter's argument; else an alias to a primitive; else the definition or the Named alias; else poison.
 pub fn resolve_name(l: &Layout, params: &[u32], x: NameId) -> HeldType
-    requires { Inside l.now }
     ensures { ResolvesName l.now params.now x result }
 {
     let a = subst_params::find_param(params, x);

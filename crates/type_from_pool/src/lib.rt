@@ -6,7 +6,6 @@ ghost use Rattle.rules.specs.Syntax.{ResolvedType, run};
 ghost use Rattle.rules.specs.Good.{Stored};
 ghost use Rattle.image_words.specs.Verdict.{section_words};
 ghost use Rattle.image_words.specs.Stands.{Stands};
-ghost use Rattle.image_layout.specs.Rows.{Inside};
 ghost use Rattle.image_layout.specs.Open.{pool_words};
 ghost use Rattle.type_words.specs.Holds.{Holds};
 ghost use Rattle.type_from_pool.specs.Held.{Types};
@@ -37,13 +36,11 @@ fn copy(pool: &[u8], at: usize, end: usize) -> HeldType
         second: 1,
     };
     let mut before = 0;
-    let mut i = 0;
-    while i < n {
+    for i in 0..n {
         let word = image_words::section_word(pool, at + i);
         words[i] = word;
         seen = pass(seen, i, before, word);
         before = word;
-        i += 1;
     }
     HeldType {
         words,
@@ -53,7 +50,6 @@ fn copy(pool: &[u8], at: usize, end: usize) -> HeldType
 }
 
 pub fn hold_type(l: &Layout, at: usize) -> Held
-    requires { Inside l.now }
     ensures { Types l.now.names.rows (pool_words l.now) at result }
 {
     let pool = l.pool;

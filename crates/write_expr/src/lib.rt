@@ -2,7 +2,6 @@
 #![tactic(auto)]
 
 ghost use Rattle.std.specs.Prelude.{◌≡◌, ◌≤◌, length};
-ghost use Rattle.image_layout.specs.Rows.{Inside};
 ghost use Rattle.write_expr.specs.Writes.{leaf_size, Writes, WritesBinary, WritesUnary};
 
 use image_layout::Layout;
@@ -47,7 +46,7 @@ pub fn write_expr(
     limit: usize,
     to: usize,
 ) -> usize
-    requires { Inside l.now × (limit ≤ length out.old) }
+    requires { limit ≤ length out.old }
     ensures { Writes l.now names.now words.now lens.now ctx at nest ty limit to out.old result out.new }
 {
     if nest == 0 {
@@ -104,7 +103,7 @@ fn write_binary(
     limit: usize,
     to: usize,
 ) -> usize
-    requires { Inside l.now × (limit ≤ length out.old) }
+    requires { limit ≤ length out.old }
     ensures { WritesBinary l.now names.now words.now lens.now ctx at nest ty limit to out.old result out.new }
 {
     let op = infer_context::operand(l, at);
@@ -131,7 +130,7 @@ fn write_unary(
     limit: usize,
     to: usize,
 ) -> usize
-    requires { Inside l.now × (limit ≤ length out.old) }
+    requires { limit ≤ length out.old }
     ensures { WritesUnary l.now names.now words.now lens.now ctx at nest ty limit to out.old result out.new }
 {
     let value = infer_context::first_part(l, at);

@@ -7,7 +7,6 @@ ghost use Rattle.rules.specs.Syntax.{ResolvedType};
 ghost use Rattle.rules.specs.Types.{VOID};
 ghost use Rattle.rules.specs.Options.{or};
 ghost use Rattle.type_words.specs.Holds.{Holds, MaybeHolds};
-ghost use Rattle.image_layout.specs.Rows.{Inside};
 ghost use Rattle.write_expr_type.specs.Foretells.{Foretells};
 ghost use Rattle.write_expr_type.specs.Clauses.{ForetellsPlace, ForetellsBinary, TellsOperandType};
 
@@ -38,7 +37,6 @@ fn foretell_place(
     lens: &[u32],
     at: usize,
 ) -> HeldType
-    requires { Inside l.now }
     ensures { ForetellsPlace l.now ctx names.now words.now lens.now at result }
 {
     or_void(infer_context::expression_hint(l, ctx, names, words, lens, at))
@@ -54,7 +52,6 @@ fn foretell_binary(
     at: usize,
     nest: u32,
 ) -> MaybeType
-    requires { Inside l.now }
     ensures { ForetellsBinary l.now ctx names.now words.now lens.now at nest result }
 {
     let op = infer_context::operand(l, at);
@@ -86,7 +83,6 @@ pub fn foretell(
     at: usize,
     nest: u32,
 ) -> HeldType
-    requires { Inside l.now }
     ensures { Foretells l.now names.now words.now lens.now ctx at nest result }
 {
     let pool = l.pool;
@@ -134,7 +130,6 @@ pub fn operand_type(
     nest: u32,
     ty: HeldType,
 ) -> HeldType
-    requires { Inside l.now }
     ensures { TellsOperandType l.now ctx names.now words.now lens.now op left right nest ty result }
 {
     let h = infer_context::binary_hint(

@@ -3,7 +3,6 @@
 
 ghost use Rattle.std.specs.Prelude.{◌≡◌, List, [], ◌∷◌, ℕ, ◌≤◌, length};
 ghost use Rattle.type_words.specs.Runs.{Runs};
-ghost use Rattle.image_layout.specs.Rows.{Inside};
 ghost use Rattle.image_layout.specs.Open.{pool_words};
 ghost use Rattle.image_words.specs.Stands.{Stands};
 ghost use Rattle.write_words.specs.Written.{Written};
@@ -44,11 +43,9 @@ pub fn put_type(out: &mut [u8], limit: usize, to: usize, ty: HeldType) -> usize
     ensures { (ws : List ℕ) → Runs ty ws → Written limit to ws out.old result out.new }
 {
     let n = ty.count();
-    let mut i = 0;
     let mut next = to;
-    while i < n {
+    for i in 0..n {
         next = put(out, limit, next, ty.word(i));
-        i += 1;
     }
     next
 }
@@ -62,17 +59,15 @@ pub fn put_words(
     limit: usize,
     to: usize,
 ) -> usize
-    requires { Inside l.now × (limit ≤ length out.old) }
+    requires { limit ≤ length out.old }
     ensures { (ws : List ℕ) (n : ℕ) → Stands (pool_words l.now) ws at n → length ws ≡ count → Written limit to ws out.old result out.new }
 {
     let pool = l.pool;
-    let mut i = 0;
     let mut from = at;
     let mut next = to;
-    while i < count {
+    for _ in 0..count {
         next = put(out, limit, next, image_words::section_word(pool, from));
         from = image_words::after(pool, from);
-        i += 1;
     }
     next
 }

@@ -28,7 +28,7 @@ pub overflow_add-types : goal.overflow_add-types
 overflow_add-types c = omega (arith, pool_small c.requires.0.inside c.requires.1.types_at.0.inside)
 
 pub view-table-requires : goal.view-table-requires
-view-table-requires c = (c.requires.0.inside, given_of c.requires.1 c.section_word-wanted.ensures c.section_word-given.ensures c.if-wanted-given.false)
+view-table-requires c = given_of c.requires.1 c.section_word-wanted.ensures c.section_word-given.ensures c.if-wanted-given.false
 
 pub overflow_add-start-4 : goal.overflow_add-start-4
 overflow_add-start-4 c = omega (arith, pool_small c.requires.0.inside c.requires.1.trait_at.parts.name_at.inside)

@@ -8,7 +8,6 @@ use Rattle.expected_locals.proofs.as_return.Goals as goal
 pub returns : goal.returns
 returns c rows t h =
     record {
-      ok = refl;
       holds = c.normalize_return.ensures rows (some t) (c.some.ensures.0, subst (λ (x : HeldType). Holds rows x t) (sym c.some.ensures.1) h);
       next = refl;
     }

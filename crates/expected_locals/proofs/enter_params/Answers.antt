@@ -1,8 +1,6 @@
 -- `expected_locals::enter_params` meets its contract. The loop's invariant: i parameters are entered, and what is left decides. Assumes nothing.
-use Prim.Native.Nat.{◌-◌}
 use native.Mathlib.Omega.{arith}
 use mathlib.Core.Path.{refl, ◌∙◌}
-use borrow.Author.Tests.{not-true, not-false}
 use Rattle.expected_signature.proofs.Places.{pool_small}
 use Rattle.expected_locals.proofs.Enters.{start, turn_inside, turn_stops, turn_goes, ended}
 use Rattle.expected_locals.proofs.enter_params.Goals as goal
@@ -18,8 +16,8 @@ overflow_add-next-in-loop-i c =
     let p = c.requires in
     omega (arith, pool_small p.0.inside (turn_inside p.1 (c.loop-i.invariant.3 p.1) (omega (arith, c.section_word-count.ensures, p.1.stands.0.is))))
 
-pub returns-then-not-s : goal.returns-then-not-s
-returns-then-not-s c h = turn_stops h (c.loop-i.invariant.3 h) (omega (arith, c.section_word-count.ensures, h.stands.0.is)) c.substitute-s.result c.substitute-s.ensures (not-true _ c.if-not-s.true) refl
+pub returns-in_err-s : goal.returns-in_err-s
+returns-in_err-s c = rw c.from_residual.ensures λ h. turn_stops h (c.loop-i.invariant.3 h) (omega (arith, c.section_word-count.ensures, h.stands.0.is)) c.in_err-s.ensures
 
 pub add_local-requires : goal.add_local-requires
 add_local-requires c =
@@ -35,8 +33,8 @@ loop-i-preserved c =
       k.words ∙ v.1,
       k.lens ∙ v.2,
       λ h.
-          turn_goes h (v.3 h) (omega (arith, c.section_word-count.ensures, h.stands.0.is)) _ _ _ c.substitute-s.result _ _ c.substitute-s.ensures (not-false _ c.if-not-s.false) c.section_word.ensures c.add_local.ensures (omega arith),
+          turn_goes h (v.3 h) (omega (arith, c.section_word-count.ensures, h.stands.0.is)) _ _ _ c.in_ok-s.s _ _ c.in_ok-s.ensures c.section_word.ensures c.add_local.ensures (omega arith),
     )
 
 pub returns : goal.returns
-returns c h = ended h (c.loop-i.invariant.3 h) (omega (arith, c.section_word-count.ensures, h.stands.0.is))
+returns c h = ended h (c.loop-i.invariant.3 h) _ (omega arith) (omega (arith, c.section_word-count.ensures, h.stands.0.is))

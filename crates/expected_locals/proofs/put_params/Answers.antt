@@ -1,6 +1,5 @@
 -- `expected_locals::put_params` meets its contract. The loop's invariant: the rows before i are written. Assumes nothing.
 use borrow.Author.Rules.{rules}
-use Prim.Native.Nat.{◌-◌}
 use native.Mathlib.Omega.{arith}
 use Rattle.expected_locals.proofs.Puts.{start, more, ended, few}
 use Rattle.expected_locals.proofs.put_params.Goals as goal

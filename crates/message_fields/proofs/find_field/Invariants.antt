@@ -7,8 +7,5 @@ use Rattle.message_fields.specs.Fields.{Fields}
 use Rattle.message_fields.proofs.Finds.{Left}
 use Rattle.message_fields.proofs.find_field.Given as goal
 
-abbrev pub invariant-loop-i : goal.invariant-loop-i
-invariant-loop-i l = (rows : ℕ) (ps : List (Param ResolvedType)) (n : ℕ) → Fields rows (section_words l.pool) ps l.at n → Left rows (section_words l.pool) l.x.0 ps n l.count l.i l.next l.best
-
-abbrev pub decreases-loop-i : goal.decreases-loop-i
-decreases-loop-i l = l.count - l.i
+abbrev pub invariant-loop : goal.invariant-loop
+invariant-loop l = (rows : ℕ) (ps : List (Param ResolvedType)) (n : ℕ) → Fields rows (section_words l.pool) ps l.at n → Left rows (section_words l.pool) l.x.0 ps n l.count l.counter l.next l.best

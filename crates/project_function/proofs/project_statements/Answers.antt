@@ -12,7 +12,7 @@ pub loop-i-init : goal.loop-i-init
 loop-i-init c = (refl, refl, refl, refl, λ f i ss n r m b o. started _ _ o _ _ _ _ n f i ss r m b)
 
 pub project_return-requires : goal.project_return-requires
-project_return-requires c = (c.requires.0, omega (arith, c.loop-i.invariant.3, c.requires.1))
+project_return-requires c = omega (arith, c.loop-i.invariant.3, c.requires.0)
 
 pub shape_of-names-then-section_word-eq-RETURN : goal.shape_of-names-then-section_word-eq-RETURN
 shape_of-names-then-section_word-eq-RETURN c = c.loop-i.invariant.0
@@ -30,7 +30,7 @@ pub returns-then-section_word-eq-RETURN : goal.returns-then-section_word-eq-RETU
 returns-then-section_word-eq-RETURN c = λ f i ss n r m b o w. let v = c.loop-i.invariant.4 f i ss n r m b o in returned v c.loop-i-test.true (sym c.section_word.ensures ∙ c.if-section_word-eq-RETURN.true) (λ e k s rest q. c.project_return.ensures v.context v.in_context e k s o w rest q)
 
 pub project_step-s-requires : goal.project_step-s-requires
-project_step-s-requires c = (c.requires.0, omega (arith, c.loop-i.invariant.3, c.requires.1), omega (arith, c.loop-i.invariant.0, c.requires.2), omega (arith, c.loop-i.invariant.1, c.requires.3), omega (arith, c.loop-i.invariant.2, c.requires.4))
+project_step-s-requires c = (omega (arith, c.loop-i.invariant.3, c.requires.0), omega (arith, c.loop-i.invariant.0, c.requires.1), omega (arith, c.loop-i.invariant.1, c.requires.2), omega (arith, c.loop-i.invariant.2, c.requires.3))
 
 pub shape_of-names-then-not-done : goal.shape_of-names-then-not-done
 shape_of-names-then-not-done c = omega (arith, c.names-1.given, c.loop-i.invariant.0)
@@ -46,12 +46,6 @@ shape_of-out-then-not-done c = omega (arith, c.out-in-loop-i-1.given, c.loop-i.i
 
 pub returns-then-not-done : goal.returns-then-not-done
 returns-then-not-done c = λ f i ss n r m b o w. let v = c.loop-i.invariant.4 f i ss n r m b o in passed_refused v c.loop-i-test.true (λ z. c.if-section_word-eq-RETURN.false (c.section_word.ensures ∙ z)) (λ t k s b. c.project_step-s.ensures v.context v.in_context t k s b) (not-true _ c.if-not-done.true)
-
-pub skip_statement-next-requires : goal.skip_statement-next-requires
-skip_statement-next-requires c = c.requires.0
-
-pub overflow_add-i : goal.overflow_add-i
-overflow_add-i c = omega (arith, c.loop-i-test.true, c.ranges)
 
 pub loop-i-preserved : goal.loop-i-preserved
 loop-i-preserved c = (omega (arith, c.names-1.given, c.loop-i.invariant.0), omega (arith, c.words-1.given, c.loop-i.invariant.1), omega (arith, c.lens-1.given, c.loop-i.invariant.2), omega (arith, c.out-in-loop-i-1.given, c.loop-i.invariant.3), λ f i ss n r m b o. let v = c.loop-i.invariant.4 f i ss n r m b o in passed_on v c.loop-i-test.true (λ z. c.if-section_word-eq-RETURN.false (c.section_word.ensures ∙ z)) (λ t k s b. c.project_step-s.ensures v.context v.in_context t k s b) (not-false _ c.if-not-done.false) c.skip_statement-next.ensures)

@@ -13,7 +13,3 @@ abbrev pub invariant-loop-i : goal.invariant-loop-i
 invariant-loop-i l =
     (length l.names ≡ length l.initial.names) × (length l.words ≡ length l.initial.words) × (length l.lens ≡ length l.initial.lens) × (length l.out ≡ length l.initial.out)
     × AtBlock l.l l.initial.names l.initial.words l.initial.lens l.ctx l.at l.count (λ c ss n. (o : Option ResolvedType) → Left l.l l.ctx o l.limit l.to l.initial.out l.count n (block_words o c ss) l.names l.words l.lens l.locals l.i l.next l.place l.out)
-
-abbrev pub decreases-loop-i : goal.decreases-loop-i
-decreases-loop-i l =
-    l.count - l.i

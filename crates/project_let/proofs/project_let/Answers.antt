@@ -17,10 +17,10 @@ returns-then-not-done c =
     let_refused _ _ _ _ _ f i (name_at s _ c.operand.ensures) t e tested (not-true _ c.if-not-done.true) refl
 
 pub write_let-next-requires : goal.write_let-next-requires
-write_let-next-requires c = (c.requires.0, c.requires.1)
+write_let-next-requires c = c.requires.0
 
 pub add_local-requires : goal.add_local-requires
-add_local-requires c = (omega (arith, c.if-count-ge-LOCAL_ROWS.false), c.requires.2, c.requires.3, c.requires.4)
+add_local-requires c = (omega (arith, c.if-count-ge-LOCAL_ROWS.false), c.requires.1, c.requires.2, c.requires.3)
 
 pub overflow_add-result : goal.overflow_add-result
 overflow_add-result c = omega (arith, c.if-count-ge-LOCAL_ROWS.false)

@@ -19,6 +19,3 @@ pub record Inv (ws : List ℕ) (at end n : ℕ) (words : List ℕ) (seen : Seen)
 
 abbrev pub invariant-loop-i : goal.invariant-loop-i
 invariant-loop-i l = Inv (section_words l.pool) l.at l.end l.n l.words l.seen l.before l.i
-
-abbrev pub decreases-loop-i : goal.decreases-loop-i
-decreases-loop-i l = l.n - l.i

@@ -9,6 +9,3 @@ use Rattle.write_words.proofs.put_type.Given as goal
 
 abbrev pub invariant-loop-i : goal.invariant-loop-i
 invariant-loop-i l = (l.i ≤ l.n) × (length l.out ≡ length l.initial.out) × ((ws : List ℕ) → Runs l.ty ws → Written l.limit l.to (take l.i ws) l.initial.out l.next l.out)
-
-abbrev pub decreases-loop-i : goal.decreases-loop-i
-decreases-loop-i l = l.n - l.i

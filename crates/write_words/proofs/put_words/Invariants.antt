@@ -8,8 +8,5 @@ use Rattle.image_words.specs.Stands.{Stands}
 use Rattle.write_words.specs.Written.{Written}
 use Rattle.write_words.proofs.put_words.Given as goal
 
-abbrev pub invariant-loop-i : goal.invariant-loop-i
-invariant-loop-i l = (l.i ≤ l.count) × (length l.out ≡ length l.initial.out) × ((ws : List ℕ) (n : ℕ) → Stands (section_words l.pool) ws l.at n → length ws ≡ l.count → (l.from ≡ l.at + l.i) × Written l.limit l.to (take l.i ws) l.initial.out l.next l.out)
-
-abbrev pub decreases-loop-i : goal.decreases-loop-i
-decreases-loop-i l = l.count - l.i
+abbrev pub invariant-loop : goal.invariant-loop
+invariant-loop l = (l.counter ≤ l.count) × (length l.out ≡ length l.initial.out) × ((ws : List ℕ) (n : ℕ) → Stands (section_words l.pool) ws l.at n → length ws ≡ l.count → (l.from ≡ l.at + l.counter) × Written l.limit l.to (take l.counter ws) l.initial.out l.next l.out)

@@ -11,12 +11,6 @@ loop-i-init c = λ ps es n r w m. started _ _ _ _ _ _ _ ps es _ n r w m
 pub returns-then-not-r : goal.returns-then-not-r
 returns-then-not-r c = λ ps es n r w m. refusing _ _ _ _ _ _ _ (c.loop-i.invariant ps es n r w m) (omega (arith, c.loop-i-test.true)) _ (λ h. c.after-place.ensures (omega arith)) _ c.hold_type-h.ensures _ c.section_word.ensures _ c.name_at-wanted.ensures _ (λ ns p q. c.local_type-expected.ensures _ ns p q) _ (λ a e x y s t. c.check_param-r.ensures _ a e x y s t) (not-true _ c.if-not-r.true)
 
-pub overflow_add-i : goal.overflow_add-i
-overflow_add-i c = omega (arith, c.loop-i-test.true, c.ranges.count)
-
-pub loop-i-smaller : goal.loop-i-smaller
-loop-i-smaller c = omega (arith, c.loop-i-test.true)
-
 pub loop-i-preserved : goal.loop-i-preserved
 loop-i-preserved c = λ ps es n r w m. turned _ _ _ _ _ _ _ (c.loop-i.invariant ps es n r w m) (omega (arith, c.loop-i-test.true)) _ (λ h. c.after-place.ensures (omega arith)) _ c.hold_type-h.ensures _ c.section_word.ensures _ c.name_at-wanted.ensures _ (λ ns p q. c.local_type-expected.ensures _ ns p q) _ (λ a e x y s t. c.check_param-r.ensures _ a e x y s t) (not-false _ c.if-not-r.false)
 

@@ -14,6 +14,3 @@ use Rattle.check_signature.proofs.params.check_params.Given as goal
 
 abbrev pub invariant-loop-i : goal.invariant-loop-i
 invariant-loop-i l = (ps es : List (Param ResolvedType)) (n : ℕ) → Row (ParamAt l.l.names.rows (pool_words l.l) (TypeStands l.l.names.rows (pool_words l.l))) ps l.at n → Rows l.l.names.rows l.names l.words l.lens l.count 0 es → length ps ≡ length es → Left l.l.names.rows l.names l.words l.lens l.count (pool_words l.l) l.function.0 ps es n l.i l.next
-
-abbrev pub decreases-loop-i : goal.decreases-loop-i
-decreases-loop-i l = l.count - l.i

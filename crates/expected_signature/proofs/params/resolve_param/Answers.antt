@@ -1,6 +1,5 @@
-use mathlib.Core.Path.{refl, ◌∙◌}
+use mathlib.Core.Path.{◌∙◌}
 use native.Mathlib.Omega.{arith}
-use borrow.Author.Tests.{not-true, not-false}
 use Rattle.rules.specs.Substitute.{substitute_type}
 use Rattle.rules.specs.Output.{param_words}
 use Rattle.answers.proofs.Writes.{writes_then, writes_same}
@@ -12,18 +11,17 @@ use Rattle.expected_signature.proofs.params.resolve_param.Goals as goal
 pub overflow_add-at : goal.overflow_add-at
 overflow_add-at c = omega (arith, pool_small c.requires.0.inside c.requires.1.stands.name_at.inside)
 
-pub returns-then-not-s : goal.returns-then-not-s
-returns-then-not-s c =
-    λ h. let a = c.args in
-    says_large (param_large h.schema h.seen h.tree (is_large a.l.now.names.rows h.behind c.substitute-s.result (substitute_type h.schema h.seen h.tree.ty) (c.substitute-s.ensures h.schema h.opened h.seen h.views h.tree.ty h.behind (expr_here h.stands.type_at)) (not-true _ c.if-not-s.true))) c.too_large.ensures
+pub returns-in_err-s : goal.returns-in_err-s
+returns-in_err-s c =
+    rw c.from_residual.ensures λ h. let a = c.args in
+    says_large (param_large h.schema h.seen h.tree (is_large a.l.now.names.rows h.behind (substitute_type h.schema h.seen h.tree.ty) (c.in_err-s.ensures h.schema h.opened h.seen h.views h.tree.ty h.behind (expr_here h.stands.type_at))))
 
 pub returns : goal.returns
 unfolding param_words
 returns c =
     λ h. let a = c.args in
-    let k = taken a.l.now.names.rows h.behind c.substitute-s.result (substitute_type h.schema h.seen h.tree.ty) (c.substitute-s.ensures h.schema h.opened h.seen h.views h.tree.ty h.behind (expr_here h.stands.type_at)) (not-false _ c.if-not-s.false) in
+    let k = taken a.l.now.names.rows h.behind c.in_ok-s.s (substitute_type h.schema h.seen h.tree.ty) (c.in_ok-s.ensures h.schema h.opened h.seen h.views h.tree.ty h.behind (expr_here h.stands.type_at)) in
     says_done (param_done h.schema h.seen h.tree k.is) (record {
-      ok = refl;
       visits = k.visits;
       next = k.next;
       poison = c.contains_poison.ensures.1 a.l.now.names.rows k.t k.holds;

@@ -10,7 +10,6 @@ returns-then-not-n c =
     λ names o m. let q = c.normalize_return-n.ensures names o m in
     let n = c.normalize_return-n.result in
     record {
-      ok = refl;
       visits = refl;
       next = refl;
       poison = none_clean names n (normalize_return o) q (not-true _ c.if-not-n.true);
@@ -22,7 +21,6 @@ returns c =
     λ names o m. let q = c.normalize_return-n.ensures names o m in
     let n = c.normalize_return-n.result in
     record {
-      ok = refl;
       visits = refl;
       next = refl;
       poison = some_clean names n (normalize_return o) q (not-false _ c.if-not-n.false) c.contains_poison.ensures.1;

@@ -1,7 +1,6 @@
 use mathlib.Core.Path.{refl, sym, subst, ◌∙◌}
 use mathlib.Core.Option.{none, some}
 use native.Mathlib.Omega.{arith}
-use borrow.Author.Tests.{not-true, not-false}
 use Rattle.rules.specs.Substitute.{substitute_type}
 use Rattle.image_layout.specs.Open.{pool_words}
 use Rattle.type_words.specs.declared.HeldType.{HeldType}
@@ -33,15 +32,15 @@ returns-then-form-eq1 c =
 pub overflow_add-at-2 : goal.overflow_add-at-2
 overflow_add-at-2 c = omega (arith, pool_small c.requires.0.inside (return_inside _ _ _ _ c.requires.1.tree c.requires.1.stands))
 
-pub returns-then-not-s : goal.returns-then-not-s
-returns-then-not-s c =
-    λ h. let a = c.args in
+pub returns-in_err-s : goal.returns-in_err-s
+returns-in_err-s c =
+    rw c.from_residual.ensures λ h. let a = c.args in
     let k = expression_at a.l.now.names.rows (pool_words a.l.now) a.at h.behind h.schema h.seen h.tree h.stands (λ e. c.if-form-eq0.false (c.section_word-form.ensures ∙ e)) (λ e. c.if-form-eq1.false (c.section_word-form.ensures ∙ e)) in
-    says_large (k.large (is_large a.l.now.names.rows h.behind c.substitute-s.result (substitute_type h.schema h.seen k.expr) (c.substitute-s.ensures h.schema h.opened h.seen h.views k.expr h.behind (expr_here k.stands)) (not-true _ c.if-not-s.true))) c.too_large.ensures
+    says_large (k.large (is_large a.l.now.names.rows h.behind (substitute_type h.schema h.seen k.expr) (c.in_err-s.ensures h.schema h.opened h.seen h.views k.expr h.behind (expr_here k.stands))))
 
 pub returns : goal.returns
 returns c =
     λ h. let a = c.args in
     let k = expression_at a.l.now.names.rows (pool_words a.l.now) a.at h.behind h.schema h.seen h.tree h.stands (λ e. c.if-form-eq0.false (c.section_word-form.ensures ∙ e)) (λ e. c.if-form-eq1.false (c.section_word-form.ensures ∙ e)) in
-    let t = taken a.l.now.names.rows h.behind c.substitute-s.result (substitute_type h.schema h.seen k.expr) (c.substitute-s.ensures h.schema h.opened h.seen h.views k.expr h.behind (expr_here k.stands)) (not-false _ c.if-not-s.false) in
+    let t = taken a.l.now.names.rows h.behind c.in_ok-s.s (substitute_type h.schema h.seen k.expr) (c.in_ok-s.ensures h.schema h.opened h.seen h.views k.expr h.behind (expr_here k.stands)) in
     says_done (k.makes t.is) (done_same t.visits t.next (c.put_return-2.ensures a.l.now.names.rows (some t.t) (c.some-2.ensures.0, subst (λ (x : HeldType). Holds a.l.now.names.rows x t.t) (sym c.some-2.ensures.1) t.holds)))

@@ -1,9 +1,8 @@
 use Prim.Native.Nat.{ℕ, ◌+◌}
-use mathlib.Core.Path.{refl, ap, ap₂, ◌∙◌}
+use mathlib.Core.Path.{ap, ap₂, ◌∙◌}
 use mathlib.Core.Bool.{◌||◌}
 use mathlib.Core.List.{◌∷◌, ◌++◌}
 use native.Mathlib.Omega.{arith}
-use borrow.Author.Tests.{not-true, not-false}
 use Rattle.rules.specs.Output.{listed, param_words, signature_words}
 use Rattle.expected_signature.specs.Parts.{normal_words}
 use Rattle.answers.proofs.Writes.{writes_then, writes_same}
@@ -16,46 +15,45 @@ use Rattle.expected_signature.proofs.whole.resolve_signature.Goals as goal
 pub overflow_add-at : goal.overflow_add-at
 overflow_add-at c = omega (arith, pool_small c.requires.0.inside c.requires.1.stands.parts.name_at.inside)
 
-pub resolve_params-p-requires : goal.resolve_params-p-requires
-resolve_params-p-requires c = (c.requires.0, params_of c.requires.1, omega (arith, c.put-a.ensures.place, c.requires.2))
+pub resolve_params-requires : goal.resolve_params-requires
+resolve_params-requires c = (c.requires.0, params_of c.requires.1, omega (arith, c.put-a.ensures.place, c.requires.2))
 
-pub shape_of-out-then-not-p : goal.shape_of-out-then-not-p
-shape_of-out-then-not-p c = c.resolve_params-p.auto.out ∙ c.put-a.auto.out
+pub shape_of-out-in_err-p : goal.shape_of-out-in_err-p
+shape_of-out-in_err-p c = c.resolve_params.auto.out ∙ c.put-a.auto.out
 
-pub returns-then-not-p : goal.returns-then-not-p
-returns-then-not-p c = λ h. says_large (signature_large h.schema h.seen h.tree (part_large (c.resolve_params-p.ensures (params_of h)) (not-true _ c.if-not-p.true))) (not-true _ c.if-not-p.true)
+pub returns-in_err-p : goal.returns-in_err-p
+returns-in_err-p c = rw c.from_residual.ensures λ h. says_large (signature_large h.schema h.seen h.tree (part_large (c.in_err-p.ensures (params_of h))))
 
-pub resolve_return-t-requires : goal.resolve_return-t-requires
-resolve_return-t-requires c =
+pub resolve_return-requires : goal.resolve_return-requires
+resolve_return-requires c =
     let h = c.requires.1 in
-    let m = made (c.resolve_params-p.ensures (params_of h)) (not-false _ c.if-not-p.false) in
+    let m = made (c.in_ok-p.ensures (params_of h)) in
     (c.requires.0, return_of h m.so.next, omega (arith, (params_bound (params_of h) m).1, c.put-a.ensures.place, c.requires.2))
 
-pub shape_of-out-then-not-t : goal.shape_of-out-then-not-t
-shape_of-out-then-not-t c = c.resolve_return-t.auto.out ∙ c.resolve_params-p.auto.out ∙ c.put-a.auto.out
+pub shape_of-out-in_err-t : goal.shape_of-out-in_err-t
+shape_of-out-in_err-t c = c.resolve_return.auto.out ∙ c.resolve_params.auto.out ∙ c.put-a.auto.out
 
-pub returns-then-not-t : goal.returns-then-not-t
-returns-then-not-t c =
-    λ h. let m = made (c.resolve_params-p.ensures (params_of h)) (not-false _ c.if-not-p.false) in
-    says_large (return_large h.schema h.seen h.tree m.is (part_large (c.resolve_return-t.ensures (return_of h m.so.next)) (not-true _ c.if-not-t.true))) (not-true _ c.if-not-t.true)
+pub returns-in_err-t : goal.returns-in_err-t
+returns-in_err-t c =
+    rw c.from_residual-in_err-t.ensures λ h. let m = made (c.in_ok-p.ensures (params_of h)) in
+    says_large (return_large h.schema h.seen h.tree m.is (part_large (c.in_err-t.ensures (return_of h m.so.next))))
 
 pub overflow_add-result : goal.overflow_add-result
 overflow_add-result c =
     let h = c.requires.1 in
-    let m = made (c.resolve_params-p.ensures (params_of h)) (not-false _ c.if-not-p.false) in
-    let t = made (c.resolve_return-t.ensures (return_of h m.so.next)) (not-false _ c.if-not-t.false) in
+    let m = made (c.in_ok-p.ensures (params_of h)) in
+    let t = made (c.in_ok-t.ensures (return_of h m.so.next)) in
     omega (arith, (params_bound (params_of h) m).0, (return_bound _ h.schema h.seen h.tree.return_type h.stands.good.return_type t).0)
 
 pub shape_of-out : goal.shape_of-out
-shape_of-out c = c.resolve_return-t.auto.out ∙ c.resolve_params-p.auto.out ∙ c.put-a.auto.out
+shape_of-out c = c.resolve_return.auto.out ∙ c.resolve_params.auto.out ∙ c.put-a.auto.out
 
 pub returns : goal.returns
 unfolding signature_words
 returns c =
-    λ h. let m = made (c.resolve_params-p.ensures (params_of h)) (not-false _ c.if-not-p.false) in
-    let t = made (c.resolve_return-t.ensures (return_of h m.so.next)) (not-false _ c.if-not-t.false) in
+    λ h. let m = made (c.in_ok-p.ensures (params_of h)) in
+    let t = made (c.in_ok-t.ensures (return_of h m.so.next)) in
     says_done (signature_done h.schema h.seen h.tree m.is t.is) (record {
-      ok = refl;
       visits = ap₂ ◌+◌ m.so.visits t.so.visits;
       next = t.so.next;
       poison = ap₂ ◌||◌ m.so.poison t.so.poison;

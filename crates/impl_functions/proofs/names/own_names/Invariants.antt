@@ -1,5 +1,5 @@
 -- `impl_functions::names::own_names` meets its contract. The loop's invariant: the names in the table, then those that are left. Assumes nothing.
-use Prim.Native.Nat.{◌-◌, ◌≤◌}
+use Prim.Native.Nat.{◌≤◌}
 use mathlib.Core.Path.{◌≡◌}
 use mathlib.Core.List.{List}
 use lib.ListN.{length}
@@ -10,6 +10,3 @@ use Rattle.impl_functions.proofs.names.own_names.Given as goal
 
 abbrev pub invariant-loop-i : goal.invariant-loop-i
 invariant-loop-i l = (length l.names ≡ 64) × (l.i ≤ length l.places) × ((fs : List ImplFnDef) → Placed l.l fs l.places → OwnNames l.l fs l.places l.names l.i)
-
-abbrev pub decreases-loop-i : goal.decreases-loop-i
-decreases-loop-i l = length l.places - l.i

@@ -1,17 +1,11 @@
 -- `impl_name_tests::repeats::no_repeat` meets its contract. The loop's invariant: those that are left, under the names before them, decide. Assumes nothing.
-use Prim.Native.Nat.{◌-◌}
 use mathlib.Core.Path.{refl, sym, ap, ◌∙◌}
-use native.Mathlib.Omega.{arith}
-use lib.Seq.{length-take-le}
 use Rattle.answers.specs.Refusals.{refusal_of}
 use Rattle.impl_name_tests.proofs.NameTests.{none_yet, seen_before, not_seen, none_seen}
 use Rattle.impl_name_tests.proofs.repeats.no_repeat.Goals as goal
 
 pub loop-i-init : goal.loop-i-init
 loop-i-init c = λ fs h. none_yet _ _ fs h refl
-
-pub slice_bounds-listed-end : goal.slice_bounds-listed-end
-slice_bounds-listed-end c = sym (length-take-le _ _ (omega arith))
 
 pub returns-then-listed : goal.returns-then-listed
 returns-then-listed c = λ fs h. seen_before _ _ (c.loop-i.invariant fs h) c.loop-i-test.true (sym c.listed.ensures ∙ c.if-listed.true) c.refused.ensures.0 (ap refusal_of c.refused.ensures.1 ∙ c.at.ensures)

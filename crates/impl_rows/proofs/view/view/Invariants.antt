@@ -1,4 +1,3 @@
-use Prim.Native.Nat.{◌-◌}
 use mathlib.Core.Path.{◌≡◌}
 use lib.ListN.{length}
 use Rattle.impl_rows.specs.Given.{Given}
@@ -7,6 +6,3 @@ use Rattle.impl_rows.proofs.view.view.Given as goal
 
 abbrev pub invariant-loop-i : goal.invariant-loop-i
 invariant-loop-i l = (length l.table ≡ 528) × ((g : Given l.l l.params l.types l.count) → Left g l.i l.next l.table)
-
-abbrev pub decreases-loop-i : goal.decreases-loop-i
-decreases-loop-i l = l.count - l.i

@@ -8,6 +8,3 @@ use Rattle.project_functions.proofs.list.project_list.Given as goal
 
 abbrev pub invariant-loop-i : goal.invariant-loop-i
 invariant-loop-i l = (length l.out ≡ length l.initial.out) × ((h : All l.l l.params l.at) → Left h l.names l.places l.parts l.limit l.initial.place l.initial.out l.i l.next l.place l.out)
-
-abbrev pub decreases-loop-i : goal.decreases-loop-i
-decreases-loop-i l = l.count - l.i

@@ -22,12 +22,6 @@ overflow_add-asked-2 c = omega (arith, start_small c.requires.0.inside c.require
 pub overflow_add-asked-3 : goal.overflow_add-asked-3
 overflow_add-asked-3 c = omega (arith, start_small c.requires.0.inside c.requires.1.asked, few c.requires.1 c.section_word-n.ensures)
 
-pub functions_start-functions-requires : goal.functions_start-functions-requires
-functions_start-functions-requires c = c.requires.0.inside
-
-pub function_places-found-requires : goal.function_places-found-requires
-function_places-found-requires c = c.requires.0.inside
-
 pub slice_bounds-found-end : goal.slice_bounds-found-end
 slice_bounds-found-end c = omega (arith, c.few-count.ensures.1)
 
@@ -35,19 +29,13 @@ pub slice_bounds-places-end : goal.slice_bounds-places-end
 slice_bounds-places-end c = let e : length c.function_places-found.result ≡ 64 = search rules in sym (length-take-le _ _ (omega (arith, c.few-count.ensures.1)))
 
 pub own_names-own-requires : goal.own_names-own-requires
-own_names-own-requires c = (c.requires.0.inside, few_places _ c.few-count.ensures.1)
-
-pub function_names-wanted-requires : goal.function_names-wanted-requires
-function_names-wanted-requires c = c.requires.0.inside
+own_names-own-requires c = few_places _ c.few-count.ensures.1
 
 pub slice_bounds-own-end : goal.slice_bounds-own-end
 slice_bounds-own-end c = omega (arith, c.few-count.ensures.1)
 
 pub slice_bounds-check_names-end : goal.slice_bounds-check_names-end
 slice_bounds-check_names-end c = let e : length c.own_names-own.result ≡ 64 = search rules in sym (length-take-le _ _ (omega (arith, c.few-count.ensures.1)))
-
-pub check_names-tests-requires : goal.check_names-tests-requires
-check_names-tests-requires c = c.requires.0.inside
 
 pub overflow_add-start-2 : goal.overflow_add-start-2
 overflow_add-start-2 c = omega (arith, start_small c.requires.0.inside c.requires.1.asked)
@@ -59,7 +47,7 @@ pub overflow_add-types : goal.overflow_add-types
 overflow_add-types c = omega (arith, types_small c.requires.0.inside c.requires.1.asked)
 
 pub view-table-requires : goal.view-table-requires
-view-table-requires c = (c.requires.0.inside, given c.requires.1 c.section_word-n.ensures)
+view-table-requires c = given c.requires.1 c.section_word-n.ensures
 
 pub overflow_mul-table : goal.overflow_mul-table
 overflow_mul-table c = omega (arith, few c.requires.1 c.section_word-n.ensures)
