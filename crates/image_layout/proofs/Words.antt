@@ -1,16 +1,20 @@
 -- Where a word of a row stands.
-use Prim.Native.Nat.{ℕ, suc, ◌+◌, ◌*◌, ◌<◌, ◌≤◌}
-use Prim.Native.Nat.{min}
+use Prim.Native.Nat.{ℕ, suc, ◌+◌, ◌-◌, ◌*◌, ◌/◌, ◌<◌, ◌≤◌, min}
 use mathlib.Core.Path.{◌≡◌, refl, sym, ap, ◌∙◌}
-use native.Mathlib.Decide.{dec_le}
-use mathlib.Core.List.{List}
+use mathlib.Core.Bool.{◌&&◌, cond}
+use mathlib.Core.List.{List, []}
+use native.Mathlib.Decide.{dec_lt}
 use native.Mathlib.Omega.{arith}
 use native.Mathlib.Nat.{mul-le-mul_left, mul-suc}
-use lib.ListN.{length, take, drop, get_or, get_or-eq_default}
-use Rattle.image_words.specs.Verdict.{section_words}
-use Rattle.image_words.proofs.Sections.{length_section}
+use borrow.Author.Tests.{lt-ltb, le-ltb}
+use lib.Dec.{ltb}
+use lib.ListN.{length, take, drop, get_or, length-take, length-drop}
 use lib.Seq.{get_or-take, get_or-drop}
 use Rattle.words.specs.Words.{word_at}
+use Rattle.image_words.specs.Verdict.{section_words}
+use Rattle.image_words.proofs.Sections.{section_at, section_past}
+use Rattle.image_layout.specs.declared.Table.{Table}
+use Rattle.image_layout.specs.Rows.{row_word, IsRow}
 
 pub row_inside : (w i r k : ℕ) → i < r → k < w → w * i + k < w * r
 row_inside w i r k h g = let m : w * suc i ≤ w * r = mul-le-mul_left w h in omega (arith, mul-suc w i)
@@ -23,17 +27,36 @@ part_word xs start n at h =
     let first : get_or (take n (drop start xs)) at 0 ≡ get_or xs (start + at) 0 = let i : at < n = omega arith in rw (get_or-take, get_or-drop) refl in
     omega (arith, first, byte 1 (omega arith), byte 2 (omega arith), byte 3 (omega arith))
 
--- a word at a saturated place is the word at the place: where they differ, both are past the section
-pub saturated : (section : List ℕ) → length section ≤ 18446744073709551615 → (p k m at : ℕ) → m ≡ min p 18446744073709551615 → at ≡ min (m + k) 18446744073709551615
-    → get_or (section_words section) at 0 ≡ get_or (section_words section) (p + k) 0
-saturated section fits p k m at e f = by (dec_le (p + k) 18446744073709551615)
-  where
-    few : length (section_words section) ≤ 18446744073709551615
-    few = omega (arith, length_section section)
+-- a row's part of the section: `start` is the row's place, held at the section's end, and `len` how many of its `w` words stand there
+module _ (section : List ℕ) (small : length section ≤ 18446744073709551615) (p m start w len n : ℕ) (held : m ≡ min p 18446744073709551615) (at : start ≡ min m (length section / 4))
+    (few : len ≡ min w (length section / 4 - start)) (bytes : n ≡ 4 * len) where
+  long : length (take n (drop (4 * start) section)) ≡ 4 * len
+  long = simp (length-take, length-drop) (omega arith)
 
-    by : Dec (p + k ≤ 18446744073709551615) → get_or (section_words section) at 0 ≡ get_or (section_words section) (p + k) 0
-    by (yes h) = ap (λ (n : ℕ). get_or (section_words section) n 0) (omega arith)
-    by (no h) =
-        let a : length (section_words section) ≤ at = omega (arith, few) in
-        let b : length (section_words section) ≤ p + k = omega (arith, few) in
-        get_or-eq_default (section_words section) 0 a ∙ sym (get_or-eq_default (section_words section) 0 b)
+  off_row : (k : ℕ) → w ≤ k → 0 ≡ get_or (section_words (take n (drop (4 * start) section))) k 0
+  off_row k h = section_past (take n (drop (4 * start) section)) k (omega (arith, long))
+
+  in_row : (k : ℕ) → k < w → get_or (section_words section) (p + k) 0 ≡ get_or (section_words (take n (drop (4 * start) section))) k 0
+  in_row k h = by (dec_lt (p + k) (length section / 4))
+    where
+      by : Dec (p + k < length section / 4) → get_or (section_words section) (p + k) 0 ≡ get_or (section_words (take n (drop (4 * start) section))) k 0
+      by (yes l) =
+          let e : 4 * (p + k) ≡ 4 * start + 4 * k = omega arith in
+          sym (section_at section (p + k) l) ∙ ap (λ (j : ℕ). word_at section j) e ∙ sym (part_word section (4 * start) n (4 * k) (omega arith))
+          ∙ section_at (take n (drop (4 * start) section)) k (omega (arith, long))
+      by (no l) = sym (section_past section (p + k) (omega arith)) ∙ section_past (take n (drop (4 * start) section)) k (omega (arith, long))
+
+pub row_is : (t : Table) (i : ℕ) → i < t.rows → length t.words.now ≤ 18446744073709551615 → (m start len n : ℕ) → m ≡ min (t.width * i) 18446744073709551615 → start ≡ min m (length t.words.now / 4)
+    → len ≡ min t.width (length t.words.now / 4 - start) → n ≡ 4 * len → IsRow t i (take n (drop (4 * start) t.words.now))
+unfolding row_word
+row_is t i h small m start len n held at few bytes = record { words = λ k. by k (dec_lt k t.width) }
+  where
+    by : (k : ℕ) → Dec (k < t.width)
+        → cond (ltb i t.rows && ltb k t.width) (get_or (section_words t.words.now) (t.width * i + k) 0) 0 ≡ get_or (section_words (take n (drop (4 * start) t.words.now))) k 0
+    by k (yes l) = rw (lt-ltb _ _ h, lt-ltb _ _ l) (in_row t.words.now small (t.width * i) m start t.width len n held at few bytes k l)
+    by k (no l) = let g : t.width ≤ k = omega arith in rw (lt-ltb _ _ h, le-ltb _ _ g) (off_row t.words.now small (t.width * i) m start t.width len n held at few bytes k g)
+
+-- past the rows
+pub no_row : (t : Table) (i : ℕ) → t.rows ≤ i → IsRow t i []
+unfolding row_word
+no_row t i h = record { words = λ k. rw (le-ltb _ _ h) (section_past [] k (omega arith)) }

@@ -1,5 +1,5 @@
 -- What the code reads of a row, word by word.
-use Rattle.std.specs.Prelude.{ℕ, ◌+◌, ◌*◌, ◌<◌, ◌≤◌, ◌≡◌, cond, ◌&&◌, length, take, drop, get_or, ltb}
+use Rattle.std.specs.Prelude.{ℕ, List, ◌+◌, ◌*◌, ◌<◌, ◌≤◌, ◌≡◌, cond, ◌&&◌, length, take, drop, get_or, ltb}
 use Rattle.rules.specs.Kinds.{definition_kind}
 use Rattle.rules.specs.declared.kinds.DefinitionKind.{DefinitionKind}
 use Rattle.image_words.specs.Verdict.{section_words}
@@ -35,6 +35,10 @@ pub record Cut (l : Layout) : Type 0 where
 -- word k of row i, 0 past the rows
 unfoldable pub row_word : Table → ℕ → ℕ → ℕ
 row_word t i k = cond (ltb i t.rows && ltb k t.width) (get_or (section_words t.words.now) (t.width * i + k) 0) 0
+
+-- the bytes of row i: each of its words stands there, and none behind them
+pub record IsRow (t : Table) (i : ℕ) (row : List ℕ) : Type 0 where
+  pub words : (k : ℕ) → row_word t i k ≡ get_or (section_words row) k 0
 
 pub record IsNameRow (l : Layout) (i : ℕ) (r : NameRow) : Type 0 where
   pub start : r.start ≡ row_word l.names i 0

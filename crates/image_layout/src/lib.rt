@@ -1,8 +1,7 @@
 // An image by its sections, and its rows: all that a layer above knows of the image but the pool's words.
 #![tactic(auto)]
 
-ghost use Rattle.std.specs.Prelude.{◌≡◌};
-ghost use Rattle.image_layout.specs.Rows.{row_word, IsNameRow, IsStringRow, IsDefinitionRow};
+ghost use Rattle.image_layout.specs.Rows.{IsRow, IsNameRow, IsStringRow, IsDefinitionRow};
 
 use rules::ids::{NameId, TypeId};
 use rules::kinds::DefinitionKind;
@@ -52,41 +51,39 @@ pub struct DefinitionRow {
     pub start: u32,
 }
 
-// Word k of row i; 0 past the rows.
-fn word_of_row(t: &Table, i: u32, k: usize) -> u32
-    ensures { result ≡ row_word t.now i k }
+// The words of row i, as far as the section has them; none past the rows. A slice, so that a row's place is worked out once.
+fn row<'a>(t: &Table<'a>, i: u32) -> &'a [u8]
+    ensures { IsRow t.now i result.now }
 {
     if t.rows <= i {
-        return 0;
+        return &t.words[..0];
     }
-    if t.width <= k {
-        return 0;
-    }
+    let words = image_words::count(t.words);
     // Past the greatest number stands no word.
-    let at = t.width.saturating_mul(i as usize).saturating_add(k);
-    image_words::section_word(t.words, at)
+    let start = t.width.saturating_mul(i as usize).min(words);
+    let len = t.width.min(words - start);
+    &t.words[4 * start..4 * (start + len)]
 }
 
 pub fn name_row(l: &Layout, x: NameId) -> NameRow
     ensures { IsNameRow l.now x.0 result }
 {
-    let t = &l.names;
-    let i = x.0;
+    let row = row(&l.names, x.0);
     NameRow {
-        start: word_of_row(t, i, 0),
-        size: word_of_row(t, i, 1),
-        definition: TypeId(word_of_row(t, i, 2)),
-        alias: word_of_row(t, i, 3),
+        start: image_words::section_word(row, 0),
+        size: image_words::section_word(row, 1),
+        definition: TypeId(image_words::section_word(row, 2)),
+        alias: image_words::section_word(row, 3),
     }
 }
 
 pub fn string_row(l: &Layout, i: u32) -> StringRow
     ensures { IsStringRow l.now i result }
 {
-    let t = &l.strings;
+    let row = row(&l.strings, i);
     StringRow {
-        start: word_of_row(t, i, 0),
-        size: word_of_row(t, i, 1),
+        start: image_words::section_word(row, 0),
+        size: image_words::section_word(row, 1),
     }
 }
 
@@ -101,8 +98,9 @@ pub fn definition_row(l: &Layout, d: TypeId) -> DefinitionRow
             start: 0,
         };
     }
+    let row = row(t, i);
     DefinitionRow {
-        kind: codes::definition_kind(word_of_row(t, i, 0)),
-        start: word_of_row(t, i, 1),
+        kind: codes::definition_kind(image_words::section_word(row, 0)),
+        start: image_words::section_word(row, 1),
     }
 }

@@ -1,37 +1,35 @@
 -- Equality of held types by their words. Assumes nothing.
-use Prim.Native.Nat.{ℕ, compare, Ordering}
-use mathlib.Core.Path.{◌≡◌, refl, ap₂, ◌∙◌}
-use mathlib.Core.Bool.{Bool, false, ◌&&◌}
-use mathlib.Core.List.{List, [], ◌∷◌}
-use lib.Dec.{compare_is_eq}
-use lib.ListN.{length, take}
-use lib.Pointwise.{pointwise}
-use Rattle.std.specs.Prelude.{nat_eq}
+use Prim.Native.Nat.{ℕ, ◌<◌}
+use mathlib.Core.Path.{◌≡◌, sym, ap, ap₂, ◌∙◌}
+use mathlib.Core.Bool.{Bool, true, false}
+use mathlib.Core.List.{List}
+use lib.ListN.{length, get_or}
+use lib.Seq.{ext_get_or}
 use Rattle.rules.specs.Words.{same}
 use Rattle.rules.specs.Types.{same_type}
+use Rattle.laws.proofs.Same.{same_self, same_false}
 use Rattle.type_words.specs.declared.HeldType.{HeldType}
 use Rattle.type_words.specs.Runs.{held_run}
-use Rattle.type_words.proofs.Runs.{run_take}
+use Rattle.type_words.proofs.Runs.{run_word}
 use Rattle.type_tests.specs.Tests.{Same}
 
 -- what is said of the runs holds of the types
 same_of : {a b : HeldType} {r : Bool} → r ≡ same (held_run a) (held_run b) → Same a b r
 same_of e = record { runs = e; types = λ names t p names' u q. e ∙ (unfold same_type in ap₂ same p.run q.run) }
 
--- the slices' test is the rules'
-by_order : {p s : Bool} → p ≡ s → (o : Ordering) → (compare_is_eq o && p) ≡ (elim o [ Ordering.lt ↦ false | Ordering.eq ↦ s | Ordering.gt ↦ false ])
-by_order e Ordering.lt = refl
-by_order e Ordering.eq = e
-by_order e Ordering.gt = refl
+module _ (a b : HeldType) where
+  pub equal : held_run a ≡ held_run b → Same a b true
+  equal e = same_of (sym (ap (same (held_run a)) (sym e) ∙ same_self (held_run a)))
 
-same_words : (xs ys : List ℕ) → pointwise nat_eq xs ys ≡ same xs ys
-unfolding same
-same_words [] [] = refl
-same_words [] (y ∷ ys) = refl
-same_words (x ∷ xs) [] = refl
-same_words (x ∷ xs) (y ∷ ys) = by_order (same_words xs ys) (compare x y)
+  pub differ : (held_run a ≡ held_run b → ⊥) → Same a b false
+  differ n = same_of (sym (same_false (held_run a) (held_run b) n))
 
--- as many words as the two have, compared
-pub same_held : (a b : HeldType) (n m : ℕ) {r : Bool} → length a.words ≡ 64 → length b.words ≡ 64 → n ≡ length (held_run a) → m ≡ length (held_run b)
-    → r ≡ pointwise nat_eq (take n a.words) (take m b.words) → Same a b r
-same_held a b n m v w e f q = same_of (q ∙ same_words (take n a.words) (take m b.words) ∙ ap₂ same (run_take a n v e) (run_take b m w f))
+  -- a word that differs, a word that agrees, and all words
+  pub differ_at : (i : ℕ) → i < length (held_run a) → i < length (held_run b) → (get_or a.words i 0 ≡ get_or b.words i 0 → ⊥) → Same a b false
+  differ_at i la lb n = differ (λ e. n (sym (run_word a i la) ∙ ap (λ (l : List ℕ). get_or l i 0) e ∙ run_word b i lb))
+
+  pub agree_at : (i : ℕ) → i < length (held_run a) → i < length (held_run b) → get_or a.words i 0 ≡ get_or b.words i 0 → get_or (held_run a) i 0 ≡ get_or (held_run b) i 0
+  agree_at i la lb e = run_word a i la ∙ e ∙ sym (run_word b i lb)
+
+  pub agree : length (held_run a) ≡ length (held_run b) → ((i : ℕ) → i < length (held_run a) → get_or (held_run a) i 0 ≡ get_or (held_run b) i 0) → Same a b true
+  agree l h = equal (ext_get_or 0 (held_run a) (held_run b) l h)

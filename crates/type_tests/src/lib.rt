@@ -10,11 +10,21 @@ use rules::ids::PrimitiveType;
 use rules::tags::TypeTag;
 use type_words::{HeldType, MaybeType};
 
-// Whether two types are the same run.
+// Whether two types are the same run: it stops at the first word that differs. Not by `==`: std's comparison of slices has no early end.
 pub fn same_type(a: HeldType, b: HeldType) -> bool
     ensures { Same a b result }
 {
-    a.words[..a.count()] == b.words[..b.count()]
+    let n = a.count();
+    let m = b.count();
+    if n != m {
+        return false;
+    }
+    for i in 0..n {
+        if a.words[i] != b.words[i] {
+            return false;
+        }
+    }
+    true
 }
 
 pub fn is_numeric(ty: HeldType) -> bool
