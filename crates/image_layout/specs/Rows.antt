@@ -36,7 +36,7 @@ pub record Cut (l : Layout) : Type 0 where
 unfoldable pub row_word : Table → ℕ → ℕ → ℕ
 row_word t i k = cond (ltb i t.rows && ltb k t.width) (get_or (section_words t.words.now) (t.width * i + k) 0) 0
 
--- the bytes of row i: each of its words stands there, and none behind them
+-- the bytes of row i: each of its words stands there, and what is behind them reads as 0
 pub record IsRow (t : Table) (i : ℕ) (row : List ℕ) : Type 0 where
   pub words : (k : ℕ) → row_word t i k ≡ get_or (section_words row) k 0
 

@@ -59,8 +59,12 @@ fn row<'a>(t: &Table<'a>, i: u32) -> &'a [u8]
         return &t.words[..0];
     }
     let words = image_words::count(t.words);
-    // Past the greatest number stands no word.
-    let start = t.width.saturating_mul(i as usize).min(words);
+    // In 128 bits the product of a width and a row fits, so that one multiplication tells.
+    let place = t.width as u128 * i as u128;
+    if words as u128 <= place {
+        return &t.words[..0];
+    }
+    let start = place as usize;
     let len = t.width.min(words - start);
     &t.words[4 * start..4 * (start + len)]
 }

@@ -10,7 +10,7 @@ use rules::ids::PrimitiveType;
 use rules::tags::TypeTag;
 use type_words::{HeldType, MaybeType};
 
-// Whether two types are the same run: it stops at the first word that differs. Not by `==`: std's comparison of slices has no early end.
+// Whether two types are the same run: it stops at the first word that differs. Not by `==`: std compares slices of words by groups, each to its end.
 pub fn same_type(a: HeldType, b: HeldType) -> bool
     ensures { Same a b result }
 {
